@@ -1,0 +1,4 @@
+pub mod Process
+pub mod Feed
+pub mod Prefixes
+pub mod Budgets
