@@ -1,0 +1,45 @@
+-- Where a component stands.
+use Rattle.std.specs.Prelude.{ℕ, suc, ◌≡◌, ◌+◌, List, [], Bool, true, false, Option, Some, None}
+use Rattle.zir_tree.specs.declared.value.Val.{Val}
+use Rattle.zir_tree.specs.declared.value.Val.TheVariants.{Unit as UnitVal}
+use Rattle.zir_tree.specs.declared.value.Slot.{Slot}
+use Rattle.zir_meaning.specs.Trace.{State, Point}
+use Rattle.zir_machine.specs.declared.progress.Focus.{Focus}
+use Rattle.zir_machine.specs.declared.progress.Focus.TheVariants.{Begin, Ended, Giving, Given, Spent}
+use Rattle.zir_machine.specs.declared.progress.Progress.{Progress}
+use Rattle.zir_machine.specs.declared.progress.Base.{Base}
+
+-- the state of a run with this in scope
+abbrev pub state_of : Progress → List Slot → State
+state_of p store = record { taken = p.taken; ticks = p.ticks; left = p.left; store = store }
+
+abbrev pub base_point : Base → Point
+base_point b = record { taken = b.taken; ticks = b.ticks; store = [] }
+
+abbrev pub ended_value : Focus → Val
+ended_value Begin = UnitVal
+ended_value (Ended v) = v
+ended_value (Giving v) = UnitVal
+ended_value Given = UnitVal
+ended_value Spent = UnitVal
+
+abbrev pub given_value : Focus → Option Val
+given_value Begin = None
+given_value (Ended v) = None
+given_value (Giving v) = Some v
+given_value Given = None
+given_value Spent = None
+
+-- no output waits
+abbrev pub IsReady : Focus → Type 0
+IsReady f = given_value f ≡ None
+
+-- a tick, or the end of the budget
+abbrev pub Ticks : Bool → Progress → Progress → Type 0
+Ticks true p q = (p.left ≡ suc q.left) × (q.ticks ≡ p.ticks + 1) × (q.taken ≡ p.taken) × (q.focus ≡ p.focus)
+Ticks false p q = (p.left ≡ 0) × (q.left ≡ p.left) × (q.ticks ≡ p.ticks) × (q.taken ≡ p.taken) × (q.focus ≡ Spent)
+
+-- a tick with an element, or the end of the budget
+abbrev pub Takes : Bool → Val → Progress → Progress → Type 0
+Takes true x p q = (p.left ≡ suc q.left) × (q.ticks ≡ p.ticks + 1) × (q.taken ≡ p.taken + 1) × (q.focus ≡ Ended x)
+Takes false x p q = (p.left ≡ 0) × (q.left ≡ p.left) × (q.ticks ≡ p.ticks) × (q.taken ≡ p.taken) × (q.focus ≡ Spent)
