@@ -1,3 +1,5 @@
 pub mod Equations
 pub mod Counts
 pub mod Fuel
+pub mod Limits
+pub mod Offers
