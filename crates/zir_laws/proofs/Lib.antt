@@ -3,3 +3,6 @@ pub mod Counts
 pub mod Fuel
 pub mod Limits
 pub mod Offers
+pub mod Late
+pub mod Joins
+pub mod Runs
