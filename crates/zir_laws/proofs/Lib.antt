@@ -1,3 +1,12 @@
 pub mod Equations
 pub mod Counts
 pub mod Fuel
+pub mod Limits
+pub mod Offers
+pub mod Late
+pub mod Joins
+pub mod Runs
+pub mod Feeds
+pub mod Prefix
+pub mod Bounded
+pub mod Inputs

@@ -2,3 +2,4 @@ pub mod Process
 pub mod Feed
 pub mod Prefixes
 pub mod Budgets
+pub mod Offers
