@@ -2,5 +2,5 @@
 #![tactic(auto)]
 
 pub mod eval;
-
+pub mod node;
 pub mod progress;

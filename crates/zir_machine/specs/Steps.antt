@@ -1,0 +1,32 @@
+-- What a step of a component is.
+use Rattle.std.specs.Prelude.{ℕ, ◌≡◌, ◌≤◌, ◌<◌, Option, Some, None}
+use Rattle.zir_tree.specs.declared.value.Val.{Val}
+use Rattle.zir_tree.specs.declared.ends.End.TheVariants.{Value}
+use Rattle.zir_meaning.specs.Trace.{State}
+use Rattle.zir_laws.specs.Process.{Proc, Ends, Needs, spent_proc}
+use Rattle.zir_laws.specs.Offers.{Fed}
+use Rattle.zir_steps.specs.declared.answer.Answer.{Answer}
+use Rattle.zir_steps.specs.declared.answer.Answer.TheVariants.{Yield, Skip, Done, Need, Stopped}
+use Rattle.zir_machine.specs.declared.progress.Focus.{Focus}
+use Rattle.zir_machine.specs.declared.progress.Focus.TheVariants.{Begin, Ended, Giving, Given, Spent}
+
+-- where a component stands at an answer, with what is left of an offer and what it still does
+abbrev pub Stands : Answer → Focus → State → Option Val → Proc → Type 0
+Stands Yield f s j q = (v : Val) × (f ≡ Giving v)
+Stands Skip f s j q = Unit {0}
+Stands Done f s j q = (v : Val) × (f ≡ Ended v) × (q ≡ Ends (Value v) s)
+Stands Need f s j q = (j ≡ None) × (g : Val → Proc) × (q ≡ Needs s g)
+Stands Stopped f s j q = q ≡ spent_proc
+
+-- p became q, the offer i became j, and the component stands as the answer says
+pub record Stepped (a : Answer) (i j : Option Val) (p q : Proc) (f : Focus) (s : State) : Type 0 where
+  pub moved : Fed i j p q
+  pub stands : Stands a f s j q
+
+-- a step never gains fuel or loses ticks; it uses fuel, and gives outputs, only with ticks; and it pauses only without fuel
+pub record Paced (a : Answer) (fuel fuel' ticks ticks' : ℕ) : Type 0 where
+  pub fuel_falls : fuel' ≤ fuel
+  pub ticks_rise : ticks ≤ ticks'
+  pub used : fuel' < fuel → ticks < ticks'
+  pub yields : a ≡ Yield → ticks < ticks'
+  pub pauses : a ≡ Skip → fuel' ≡ 0

@@ -1,0 +1,133 @@
+-- What a node means where the nodes inside it are understood already.
+use Rattle.std.specs.Prelude.{ℕ, zero, suc, ◌≡◌, refl, ◌+◌, List, [], ◌∷◌, Option, Bool, true, false, ◌&&◌, nat_le, if◌then◌else◌, map}
+use Rattle.zir_tree.specs.declared.value.Val.{Val}
+use Rattle.zir_tree.specs.declared.value.Val.TheVariants.{Unit as UnitVal}
+use Rattle.zir_tree.specs.declared.value.Slot.{Slot}
+use Rattle.zir_tree.specs.declared.ends.End.TheVariants.{Value}
+use Rattle.zir_tree.specs.declared.place.Place.{Place}
+use Rattle.zir_tree.specs.declared.tree.Ident.{Ident}
+use Rattle.zir_tree.specs.declared.tree.Comp.{Comp, Take as TakeComp, Emit as EmitComp, Return as ReturnComp, Block as BlockComp, Repeat as RepeatComp, Pipe as PipeComp}
+use Rattle.zir_tree.specs.declared.tree.Member.{Member}
+use Rattle.zir_meaning.specs.Trace.{State, point}
+use Rattle.zir_meaning.specs.Composition.{fresh}
+use Rattle.zir_meaning.specs.Component.{bind, assigns}
+use Rattle.zir_laws.specs.Process.{Proc, Gives, Ends, spent_proc, NextProc, then_proc, turns_proc, proc, list_proc, piped}
+use Rattle.zir_machine.specs.declared.progress.Focus.{Focus}
+use Rattle.zir_machine.specs.declared.progress.Focus.TheVariants.{Begin, Ended, Giving, Given, Spent}
+use Rattle.zir_machine.specs.declared.progress.Progress.{Progress}
+use Rattle.zir_machine.specs.declared.progress.Base.{Base}
+use Rattle.zir_machine.specs.Standing.{state_of, base_point}
+use Rattle.zir_machine.specs.Late.{Late, needs}
+
+-- a component that has begun: it ended, waits to give or was let give, or is out of ticks
+abbrev pub ended_in : Focus → State → Proc
+ended_in Begin s = spent_proc
+ended_in (Ended v) s = Ends (Value v) s
+ended_in (Giving v) s = Gives (record { value = v; at = point s }) (Ends (Value UnitVal) s)
+ended_in Given s = Ends (Value UnitVal) s
+ended_in Spent s = spent_proc
+
+-- a component without parts
+abbrev pub leaf : Comp → Focus → State → Proc
+leaf c Begin s = proc c s
+leaf c (Ended v) s = Ends (Value v) s
+leaf c (Giving v) s = Gives (record { value = v; at = point s }) (Ends (Value UnitVal) s)
+leaf c Given s = Ends (Value UnitVal) s
+leaf c Spent s = spent_proc
+
+-- what a node runs, what that still does, and whether its counts fit together
+pub record Meant : Type 0 where
+  pub what : Comp
+  pub does : Focus → State → Proc
+  pub sound : Focus → State → Bool
+  pub spent : (s : State) → does Spent s ≡ spent_proc
+  pub giving : (v : Val) (s : State) → does (Giving v) s ≡ Gives (record { value = v; at = point s }) (does Given s)
+  pub late : (f : Focus) (s : State) → sound f s ≡ true → Late s.ticks (does f s)
+
+-- a part of a block, understood
+pub record Held : Type 0 where
+  pub bound : Option Ident
+  pub meant : Meant
+
+-- two sides, understood, and where they stand
+pub record Linked : Type 0 where
+  pub left : Meant
+  pub right : Meant
+  pub left_progress : Progress
+  pub left_store : List Slot
+  pub right_progress : Progress
+  pub base : Base
+
+abbrev pub members_of : List Held → List Member
+members_of [] = []
+members_of (h ∷ hs) = record { bound = h.bound; what = h.meant.what } ∷ members_of hs
+
+-- a loop goes on with the ticks left
+abbrev pub again : Comp → NextProc
+again c v s = turns_proc s.left (proc c) s
+
+-- what follows a part of a block
+abbrev pub rest_of_row : List Held → ℕ → Option Ident → NextProc
+rest_of_row hs base name v s = list_proc (members_of hs) base v (bind name v s)
+
+-- the part at this place runs
+abbrev pub row_in : List Held → ℕ → ℕ → Focus → State → Proc
+row_in [] at base f s = ended_in f s
+row_in (h ∷ hs) zero base f s = then_proc (h.meant.does f s) (rest_of_row hs base h.bound)
+row_in (h ∷ hs) (suc k) base f s = row_in hs k base f s
+
+abbrev pub row_sound : List Held → ℕ → Focus → State → Bool
+row_sound [] at f s = true
+row_sound (h ∷ hs) zero f s = h.meant.sound f s
+row_sound (h ∷ hs) (suc k) f s = row_sound hs k f s
+
+abbrev pub loop_in : Meant → Focus → State → Proc
+loop_in m f s = then_proc (m.does f s) (again m.what)
+
+abbrev pub left_state : Linked → State
+left_state l = state_of l.left_progress l.left_store
+
+-- the right side works in the store of the whole
+abbrev pub right_state : Linked → State → State
+right_state l s = state_of l.right_progress s.store
+
+abbrev pub left_does : Linked → Proc
+left_does l = l.left.does l.left_progress.focus (left_state l)
+
+abbrev pub right_does : Linked → State → Proc
+right_does l s = l.right.does l.right_progress.focus (right_state l s)
+
+-- what the two sides still do: of s only the limit and the store count
+abbrev pub link_goes : Linked → State → Proc
+link_goes l s = piped [] s (right_does l s) (base_point l.base) (left_does l)
+
+-- what they do from the beginning
+abbrev pub link_starts : Linked → State → Proc
+link_starts l s = piped (assigns l.left.what) s (proc l.right.what (fresh s)) (point s) (proc l.left.what s)
+
+abbrev pub link_does : Linked → Focus → State → Proc
+link_does l Begin s = link_goes l s
+link_does l (Ended v) s = Ends (Value v) s
+link_does l (Giving v) s = Gives (record { value = v; at = point s }) (link_goes l s)
+link_does l Given s = link_goes l s
+link_does l Spent s = spent_proc
+
+-- the ticks of the left side that the next event of the whole has at least
+abbrev pub floor_of : Linked → State → ℕ
+floor_of l s = if needs (right_does l s) then l.left_progress.ticks else l.base.ticks
+
+-- the sides are sound, the base is no later than the left side, and the whole no later than its next event
+abbrev pub goes_sound : Linked → State → Bool
+goes_sound l s =
+    l.right.sound l.right_progress.focus (right_state l s) && l.left.sound l.left_progress.focus (left_state l)
+    && nat_le l.base.ticks l.left_progress.ticks && nat_le s.ticks (floor_of l s + l.right_progress.ticks)
+
+abbrev pub link_sound : Linked → Focus → State → Bool
+link_sound l Begin s = goes_sound l s
+link_sound l (Ended v) s = true
+link_sound l (Giving v) s = goes_sound l s
+link_sound l Given s = goes_sound l s
+link_sound l Spent s = true
+
+abbrev pub link_comp : Linked → Place → Comp
+link_comp l p = PipeComp l.left.what l.right.what p
