@@ -1,5 +1,5 @@
 -- Where a component stands.
-use Rattle.std.specs.Prelude.{ℕ, suc, ◌≡◌, ◌+◌, List, [], Bool, true, false, Option, Some, None}
+use Rattle.std.specs.Prelude.{ℕ, suc, ◌≡◌, ◌+◌, ◌<◌, List, [], Bool, true, false, Option, Some, None}
 use Rattle.zir_tree.specs.declared.value.Val.{Val}
 use Rattle.zir_tree.specs.declared.value.Val.TheVariants.{Unit as UnitVal}
 use Rattle.zir_tree.specs.declared.value.Slot.{Slot}
@@ -43,3 +43,8 @@ Ticks false p q = (p.left ≡ 0) × (q.left ≡ p.left) × (q.ticks ≡ p.ticks)
 abbrev pub Takes : Bool → Val → Progress → Progress → Type 0
 Takes true x p q = (p.left ≡ suc q.left) × (q.ticks ≡ p.ticks + 1) × (q.taken ≡ p.taken + 1) × (q.focus ≡ Ended x)
 Takes false x p q = (p.left ≡ 0) × (q.left ≡ p.left) × (q.ticks ≡ p.ticks) × (q.taken ≡ p.taken) × (q.focus ≡ Spent)
+
+-- a turn of a loop has begun after a tick, or the budget was spent
+abbrev pub Turned : Bool → Progress → Progress → Type 0
+Turned true p q = p.ticks < q.ticks
+Turned false p q = q.focus ≡ Spent

@@ -1,11 +1,11 @@
 // A component as a tree of nodes, each with what it remembers between its events.
 
-ghost use Rattle.std.specs.Prelude.{◌≡◌, ◌+◌, ◌≤◌, ◌<◌, ◌^◌, ℕ, IfOk, OnOk, IsTrue, Some, None, length, map, drop};
-ghost use Rattle.zir_tree.specs.declared.tree.Comp.{Comp, Take as TakeComp, Emit as EmitComp, Return as ReturnComp};
+ghost use Rattle.std.specs.Prelude.{◌≡◌, ◌+◌, ◌≤◌, ◌<◌, ◌^◌, ℕ, IfOk, OnOk, true, Some, None, length, map, drop};
+ghost use Rattle.zir_tree.specs.declared.place.Place.{Place};
 ghost use Rattle.zir_meaning.specs.Trace.{State};
-ghost use Rattle.zir_meaning.specs.Component.{bind as bind_in, leave};
+ghost use Rattle.zir_meaning.specs.Store.{bound};
 ghost use Rattle.zir_laws.specs.Process.{Proc, proc, list_proc, turns_proc, then_proc, piped};
-ghost use Rattle.zir_machine.specs.Standing.{state_of, base_point, IsReady, ended_value};
+ghost use Rattle.zir_machine.specs.Standing.{state_of, base_point, IsReady, ended_value, Turned};
 ghost use Rattle.zir_machine.specs.Steps.{Stepped, Paced};
 ghost use Rattle.zir_machine.specs.Understood.{leaf, ended_in, again, members_of, row_in, row_sound, link_starts, link_goes, link_does, link_comp, link_sound, goes_sound};
 ghost use Rattle.zir_machine.specs.Nodes.{comp_of, proc_in, is_sound, held, linked};
@@ -67,5 +67,152 @@ fn answer(progress: &mut Progress, store: &Vec<Slot>, offer: &mut Option<Val>, f
             progress.focus = Focus::Spent;
             Answer::Stopped
         }
+    }
+}
+
+/// A name comes into scope with a value, where there is a name.
+fn bind(name: &Option<Ident>, v: Val, store: &mut Vec<Slot>) -> Result<(), AllocError>
+    ensures { OnOk result (store.new.items ≡ bound name.now v store.old.items) }
+{
+    if let Some(name) = name {
+        store.push(Slot {
+            id: name.id,
+            value: v,
+        })?;
+    }
+    Ok(())
+}
+
+/// A copy of what is in scope.
+fn copy_slots(from: &Vec<Slot>, to: &mut Vec<Slot>) -> Result<(), AllocError>
+    ensures { OnOk result (to.new.items ≡ from.now.items) }
+{
+    to.clear();
+    to.extend_from_slice(from.as_slice())?;
+    Ok(())
+}
+
+/// How many variables are in scope.
+fn depth(store: &Vec<Slot>) -> usize
+    ensures { result ≡ length store.now.items }
+{
+    store.len()
+}
+
+impl Node {
+    /// Begins the component.
+    #[cycle(entering)]
+    pub fn enter(&mut self, progress: &mut Progress, store: &mut Vec<Slot>) -> Result<(), AllocError>
+        ensures enters { OnOk result (proc (comp_of self.old) (state_of progress.old store.old.items) ≡ proc_in self.new progress.new.focus (state_of progress.new store.new.items)) }
+        ensures sound { OnOk result (is_sound self.new progress.new.focus (state_of progress.new store.new.items) ≡ true) }
+        ensures ready { OnOk result (IsReady progress.new.focus) }
+        ensures rises { OnOk result (progress.old.ticks ≤ progress.new.ticks) }
+        ensures kept { comp_of self.new ≡ comp_of self.old }
+    {
+        match self {
+            Node::Take(_) | Node::Emit(..) | Node::Return(..) => {
+                progress.focus = Focus::Begin;
+                Ok(())
+            }
+            Node::Block(parts, at, base, _) => {
+                *at = 0;
+                *base = depth(store);
+                enter_part(parts, 0, *base, Val::Unit, progress, store)?;
+                Ok(())
+            }
+            Node::Repeat(body, _) => {
+                turn(body, progress, store)?;
+                Ok(())
+            }
+            Node::Pipe(link, _) => {
+                link.enter(progress, store)?;
+                Ok(())
+            }
+        }
+    }
+}
+
+impl Part {
+    /// Begins the part.
+    #[cycle(entering)]
+    fn enter(&mut self, progress: &mut Progress, store: &mut Vec<Slot>) -> Result<(), AllocError>
+        ensures enters { OnOk result (proc (held self.old).meant.what (state_of progress.old store.old.items) ≡ (held self.new).meant.does progress.new.focus (state_of progress.new store.new.items)) }
+        ensures sound { OnOk result ((held self.new).meant.sound progress.new.focus (state_of progress.new store.new.items) ≡ true) }
+        ensures ready { OnOk result (IsReady progress.new.focus) }
+        ensures rises { OnOk result (progress.old.ticks ≤ progress.new.ticks) }
+        ensures kept { (held self.new).meant.what ≡ (held self.old).meant.what }
+        ensures bound { (held self.new).bound ≡ (held self.old).bound }
+    {
+        self.node.enter(progress, store)
+    }
+}
+
+/// Goes on with the parts of a block from `at` on, the part before having ended with `v`.
+#[cycle(entering)]
+fn enter_part(
+    parts: &mut Vec<Part>,
+    at: usize,
+    base: usize,
+    v: Val,
+    progress: &mut Progress,
+    store: &mut Vec<Slot>,
+) -> Result<(), AllocError>
+    ensures enters { OnOk result (list_proc (members_of (map held (drop at parts.old.items))) base v (state_of progress.old store.old.items) ≡ row_in (map held parts.new.items) at base progress.new.focus (state_of progress.new store.new.items)) }
+    ensures sound { OnOk result (row_sound (map held parts.new.items) at progress.new.focus (state_of progress.new store.new.items) ≡ true) }
+    ensures ready { OnOk result (IsReady progress.new.focus) }
+    ensures rises { OnOk result (progress.old.ticks ≤ progress.new.ticks) }
+    ensures kept { members_of (map held parts.new.items) ≡ members_of (map held parts.old.items) }
+{
+    if at < parts.len() {
+        parts[at].enter(progress, store)?;
+        Ok(())
+    } else {
+        store.truncate(base);
+        progress.focus = Focus::Ended(v);
+        Ok(())
+    }
+}
+
+/// Begins a turn of a loop, which costs a tick.
+#[cycle(entering)]
+fn turn(body: &mut Box<Node>, progress: &mut Progress, store: &mut Vec<Slot>) -> Result<bool, AllocError>
+    ensures enters { OnOk result (turns_proc progress.old.left (proc (comp_of body.old.value)) (state_of progress.old store.old.items) ≡ then_proc (proc_in body.new.value progress.new.focus (state_of progress.new store.new.items)) (again (comp_of body.new.value))) }
+    ensures sound { OnOk result (is_sound body.new.value progress.new.focus (state_of progress.new store.new.items) ≡ true) }
+    ensures ready { OnOk result (IsReady progress.new.focus) }
+    ensures rises { OnOk result (progress.old.ticks ≤ progress.new.ticks) }
+    ensures turns { IfOk result (λ turned. Turned turned progress.old progress.new) }
+    ensures kept { comp_of body.new.value ≡ comp_of body.old.value }
+{
+    if progress.tick() {
+        body.enter(progress, store)?;
+        Ok(true)
+    } else {
+        Ok(false)
+    }
+}
+
+impl Link {
+    /// Begins both sides where the whole stands.
+    #[cycle(entering)]
+    fn enter(&mut self, progress: &mut Progress, store: &mut Vec<Slot>) -> Result<(), AllocError>
+        ensures enters { OnOk result (link_starts (linked self.old) (state_of progress.old store.old.items) ≡ link_does (linked self.new) progress.new.focus (state_of progress.new store.new.items)) }
+        ensures sound { OnOk result (link_sound (linked self.new) progress.new.focus (state_of progress.new store.new.items) ≡ true) }
+        ensures ready { OnOk result (IsReady progress.new.focus) }
+        ensures rises { OnOk result (progress.old.ticks ≤ progress.new.ticks) }
+        ensures kept { (place : Place) → link_comp (linked self.new) place ≡ link_comp (linked self.old) place }
+    {
+        self.base = Base {
+            taken: progress.taken,
+            ticks: progress.ticks,
+        };
+        self.left_progress
+            .begin(progress.taken, progress.ticks, progress.left);
+        self.right_progress.begin(0, 0, progress.left);
+        copy_slots(store, &mut self.left_store)?;
+        progress.focus = Focus::Begin;
+        self.left
+            .enter(&mut self.left_progress, &mut self.left_store)?;
+        self.right.enter(&mut self.right_progress, store)?;
+        Ok(())
     }
 }

@@ -1,0 +1,152 @@
+-- A node, by what its parts mean.
+use Rattle.std.specs.Prelude.{ℕ, zero, suc, ◌≡◌, refl, ◌+◌, ◌≤◌, ◌<◌, List, [], ◌∷◌, Option, Some, None, Bool, true, false, map, length, drop, take, get_or, slice_set}
+use Rattle.std.proofs.Common.{ap, sym, subst, ◌∙◌, arith, rules}
+use Rattle.std.specs.declared.vec.Vec.{Vec}
+use Rattle.std.specs.declared.boxed.Box.{Box}
+use Rattle.std.specs.declared.alloc.Global.{Global}
+use Rattle.zir_tree.specs.declared.value.Val.{Val}
+use Rattle.zir_tree.specs.declared.value.Val.TheVariants.{Unit as UnitVal}
+use Rattle.zir_tree.specs.declared.ends.End.TheVariants.{Value}
+use Rattle.zir_tree.specs.declared.place.Place.{Place}
+use Rattle.zir_tree.specs.declared.tree.Ident.{Ident}
+use Rattle.zir_tree.specs.declared.tree.Comp.{Comp, Block as BlockComp, Repeat as RepeatComp}
+use Rattle.zir_meaning.specs.Trace.{State, point}
+use Rattle.zir_meaning.specs.Component.{bind, leave}
+use Rattle.zir_laws.specs.Process.{Proc, Ends, NextProc, then_proc, turns_proc, proc, list_proc, spent_proc}
+use Rattle.zir_laws.proofs.Equations.{block-list, repeat-turns}
+use Rattle.zir_laws.proofs.Fuel.{loop-next}
+use Rattle.zir_machine.specs.declared.progress.Focus.{Focus}
+use Rattle.zir_machine.specs.declared.progress.Focus.TheVariants.{Begin, Ended, Giving, Given, Spent}
+use Rattle.zir_machine.specs.declared.node.Node.{Node, Block, Repeat, Pipe, the_lemmas}
+use Rattle.zir_machine.specs.declared.node.Part.{Part}
+use Rattle.zir_machine.specs.declared.node.Link.{Link}
+use Rattle.zir_machine.specs.Understood.{Meant, Held, Linked, members_of, row_in, row_sound, again, rest_of_row, link_comp}
+use Rattle.zir_machine.specs.Nodes.{row_of, loop_of, link_of, meant, held, linked, comp_of, proc_in, is_sound}
+
+pub meant-Block : (v : Vec Part Global) (at base : ℕ) (p : Place) → meant (Block v at base p) ≡ row_of (map held v.items) at base p
+meant-Block v at base p = search (rules, the_lemmas)
+
+pub meant-Repeat : (b : Box Node Global) (p : Place) → meant (Repeat b p) ≡ loop_of (meant b.value) p
+meant-Repeat b p = search (rules, the_lemmas)
+
+pub meant-Pipe : (b : Box Link Global) (p : Place) → meant (Pipe b p) ≡ link_of (linked b.value) p
+meant-Pipe b p = search (rules, the_lemmas)
+
+-- what follows the part at this place
+abbrev pub after_part : List Part → ℕ → ℕ → Option Ident → NextProc
+after_part ps k base name = rest_of_row (map held (drop (suc k) ps)) base name
+
+pub row_get : (ps : List Part) (k base : ℕ) (d : Part) (f : Focus) (s : State) → k < length ps →
+    row_in (map held ps) k base f s ≡ then_proc ((held (get_or ps k d)).meant.does f s) (after_part ps k base (held (get_or ps k d)).bound)
+row_get [] k base d f s h = absurd (omega arith)
+row_get (p ∷ ps) zero base d f s h = refl
+row_get (p ∷ ps) (suc k) base d f s h = row_get ps k base d f s (omega arith)
+
+pub row_set : (ps : List Part) (k base : ℕ) (q : Part) (f : Focus) (s : State) → k < length ps →
+    row_in (map held (slice_set ps k q)) k base f s ≡ then_proc ((held q).meant.does f s) (after_part ps k base (held q).bound)
+row_set [] k base q f s h = absurd (omega arith)
+row_set (p ∷ ps) zero base q f s h = refl
+row_set (p ∷ ps) (suc k) base q f s h = row_set ps k base q f s (omega arith)
+
+pub sound_get : (ps : List Part) (k : ℕ) (d : Part) (f : Focus) (s : State) → k < length ps → row_sound (map held ps) k f s ≡ (held (get_or ps k d)).meant.sound f s
+sound_get [] k d f s h = absurd (omega arith)
+sound_get (p ∷ ps) zero d f s h = refl
+sound_get (p ∷ ps) (suc k) d f s h = sound_get ps k d f s (omega arith)
+
+pub sound_set : (ps : List Part) (k : ℕ) (q : Part) (f : Focus) (s : State) → k < length ps → row_sound (map held (slice_set ps k q)) k f s ≡ (held q).meant.sound f s
+sound_set [] k q f s h = absurd (omega arith)
+sound_set (p ∷ ps) zero q f s h = refl
+sound_set (p ∷ ps) (suc k) q f s h = sound_set ps k q f s (omega arith)
+
+pub sound_past : (ps : List Part) (k : ℕ) (f : Focus) (s : State) → length ps ≤ k → row_sound (map held ps) k f s ≡ true
+sound_past [] k f s h = refl
+sound_past (p ∷ ps) zero f s h = absurd (omega arith)
+sound_past (p ∷ ps) (suc k) f s h = sound_past ps k f s (omega arith)
+
+members_put : (ps : List Part) (k : ℕ) (d q : Part) → (held q).bound ≡ (held (get_or ps k d)).bound → (held q).meant.what ≡ (held (get_or ps k d)).meant.what →
+    members_of (map held (slice_set ps k q)) ≡ members_of (map held ps)
+members_put [] k d q e h = refl
+members_put (p ∷ ps) zero d q e h =
+    ap (λ b. record { bound = b; what = (held q).meant.what } ∷ members_of (map held ps)) e ∙ ap (λ c. record { bound = (held p).bound; what = c } ∷ members_of (map held ps)) h
+members_put (p ∷ ps) (suc k) d q e h = ap (λ ms. record { bound = (held p).bound; what = (held p).meant.what } ∷ ms) (members_put ps k d q e h)
+
+-- a part that runs the same component leaves the block what it was
+pub members_set : (ps : List Part) (k : ℕ) (d p q : Part) → p ≡ get_or ps k d → (held q).bound ≡ (held p).bound → (held q).meant.what ≡ (held p).meant.what →
+    members_of (map held (slice_set ps k q)) ≡ members_of (map held ps)
+members_set ps k d p q w e h = members_put ps k d q (e ∙ ap (λ p. (held p).bound) w) (h ∙ ap (λ p. (held p).meant.what) w)
+
+pub part_at : (ps : List Part) (k : ℕ) (d : Part) → k < length ps → drop k ps ≡ get_or ps k d ∷ drop (suc k) ps
+part_at [] k d h = absurd (omega arith)
+part_at (p ∷ ps) zero d h = refl
+part_at (p ∷ ps) (suc k) d h = part_at ps k d (omega arith)
+
+pub row_past : (ps : List Part) (k base : ℕ) (f : Focus) (s : State) → length ps ≤ k → row_in (map held ps) k base f s ≡ row_in [] 0 base f s
+row_past [] k base f s h = refl
+row_past (p ∷ ps) zero base f s h = absurd (omega arith)
+row_past (p ∷ ps) (suc k) base f s h = row_past ps k base f s (omega arith)
+
+pub drop_past : (ps : List Part) (k : ℕ) → length ps ≤ k → drop k ps ≡ []
+drop_past [] zero h = refl
+drop_past [] (suc k) h = refl
+drop_past (p ∷ ps) zero h = absurd (omega arith)
+drop_past (p ∷ ps) (suc k) h = drop_past ps k (omega arith)
+
+-- the parts from this place on, the first of which has begun
+pub begins : (ps : List Part) (k base : ℕ) (v : Val) (d p q : Part) (f : Focus) (s s' : State) → k < length ps → p ≡ get_or ps k d →
+    proc (held p).meant.what s ≡ (held q).meant.does f s' → (held q).bound ≡ (held p).bound →
+    list_proc (members_of (map held (drop k ps))) base v s ≡ row_in (map held (slice_set ps k q)) k base f s'
+begins ps k base v d p q f s s' h w e b =
+    ap (λ ps. list_proc (members_of (map held ps)) base v s) (part_at ps k d h)
+    ∙ ap (λ p. then_proc (proc (held p).meant.what s) (after_part ps k base (held p).bound)) (sym w)
+    ∙ ap (λ r. then_proc r (after_part ps k base (held p).bound)) e
+    ∙ ap (λ b. then_proc ((held q).meant.does f s') (after_part ps k base b)) (sym b)
+    ∙ sym (row_set ps k base q f s' h)
+
+pub begins_sound : (ps : List Part) (k : ℕ) (q : Part) (f : Focus) (s : State) → k < length ps → (held q).meant.sound f s ≡ true → row_sound (map held (slice_set ps k q)) k f s ≡ true
+begins_sound ps k q f s h e = sound_set ps k q f s h ∙ e
+
+-- no part is left
+pub finishes : (ps : List Part) (k base : ℕ) (v : Val) (f : Focus) (s s' : State) → length ps ≤ k → f ≡ Ended v → s' ≡ leave base s →
+    list_proc (members_of (map held (drop k ps))) base v s ≡ row_in (map held ps) k base f s'
+finishes ps k base v f s s' h e g =
+    ap (λ ps. list_proc (members_of (map held ps)) base v s) (drop_past ps k h)
+    ∙ ap (λ s. Ends (Value v) s) (sym g)
+    ∙ ap (λ f. row_in [] 0 base f s') (sym e)
+    ∙ sym (row_past ps k base f s' h)
+
+-- a block begins
+pub block_begins : (m : Node) (u v w : Vec Part Global) (at base n : ℕ) (p q : Place) (f : Focus) (s s' : State) → m ≡ Block v at base p → u ≡ v → n ≡ length s.store →
+    list_proc (members_of (map held (drop 0 u.items))) n UnitVal s ≡ row_in (map held w.items) 0 n f s' → proc (comp_of m) s ≡ proc_in (Block w 0 n q) f s'
+block_begins m u v w at base n p q f s s' e z h g =
+    ap (λ m. proc (comp_of m) s) e
+    ∙ ap (λ r. proc r.what s) (meant-Block v at base p)
+    ∙ block-list (members_of (map held v.items)) p s
+    ∙ ap (λ n. list_proc (members_of (map held v.items)) n UnitVal s) (sym h)
+    ∙ ap (λ ps. list_proc (members_of (map held ps)) n UnitVal s) (sym (drop-none v.items))
+    ∙ ap (λ v. list_proc (members_of (map held (drop 0 v.items))) n UnitVal s) (sym z)
+    ∙ g
+    ∙ sym (ap (λ r. r.does f s') (meant-Block w 0 n q))
+  where
+    drop-none : (ps : List Part) → drop 0 ps ≡ ps
+    drop-none [] = refl
+    drop-none (p ∷ ps) = refl
+
+pub block_sound : (w : Vec Part Global) (at base : ℕ) (q : Place) (f : Focus) (s : State) → row_sound (map held w.items) at f s ≡ true → is_sound (Block w at base q) f s ≡ true
+block_sound w at base q f s h = ap (λ r. r.sound f s) (meant-Block w at base q) ∙ h
+
+-- a block stays the same component
+pub block_same : (m : Node) (u v w : Vec Part Global) (at base at' base' : ℕ) (p q : Place) → m ≡ Block v at base p → u ≡ v → q ≡ p → members_of (map held w.items) ≡ members_of (map held u.items) →
+    comp_of (Block w at' base' q) ≡ comp_of m
+block_same m u v w at base at' base' p q e z y h =
+    ap (λ r. r.what) (meant-Block w at' base' q) ∙ ap (λ ms. BlockComp ms q) h ∙ ap (λ v. BlockComp (members_of (map held v.items)) q) z ∙ ap (BlockComp (members_of (map held v.items))) y
+    ∙ sym (ap (λ r. r.what) (meant-Block v at base p)) ∙ sym (ap comp_of e)
+
+-- a turn of a loop begins
+pub turn_begins : (c c' : Comp) (m : ℕ) (s s1 : State) (q : Proc) → s.left ≡ suc m → s1 ≡ record s { ticks = s.ticks + 1; left = m } → proc c s1 ≡ q → c' ≡ c → turns_proc s.left (proc c) s ≡ then_proc q (again c')
+turn_begins c c' m s s1 q e g h k =
+    loop-next c m s e ∙ ap (λ s. then_proc (proc c s) (again c)) (sym g) ∙ ap (λ p. then_proc p (again c)) h ∙ ap (λ c. then_proc q (again c)) (sym k)
+
+-- no turn begins where no tick is left
+pub turn_spent : (n : Node) (c : Comp) (s s' : State) (f : Focus) → s.left ≡ 0 → f ≡ Spent → turns_proc s.left (proc c) s ≡ then_proc (proc_in n f s') (again c)
+turn_spent n c s s' f e h =
+    ap (λ k. turns_proc k (proc c) (record s { left = s.left })) e ∙ sym (ap (λ f. then_proc (proc_in n f s') (again c)) h ∙ ap (λ p. then_proc p (again c)) ((meant n).spent s'))
