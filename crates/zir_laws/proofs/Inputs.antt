@@ -16,7 +16,7 @@ use Rattle.zir_laws.proofs.Counts.{Counts, counts-proc}
 use Rattle.zir_laws.proofs.Late.{within-spent}
 use Rattle.zir_laws.proofs.Bounded.{Bounded, bounded-proc}
 use Rattle.zir_laws.proofs.Runs.{run-proc}
-use Rattle.zir_laws.proofs.Feeds.{feeds}
+use Rattle.zir_laws.proofs.Feed.{feeds}
 
 -- where a run begins, with so many ticks left
 abbrev begin : ℕ → Store → State

@@ -6,7 +6,7 @@ pub mod Offers
 pub mod Late
 pub mod Joins
 pub mod Runs
-pub mod Feeds
+pub mod Feed
 pub mod Prefix
 pub mod Bounded
 pub mod Inputs
