@@ -10,3 +10,4 @@ pub mod Feed
 pub mod Prefix
 pub mod Bounded
 pub mod Inputs
+pub mod Budget
