@@ -1,7 +1,7 @@
 -- The law of budgets, by a relation between the processes of two budgets.
 use Rattle.std.specs.Prelude.{ℕ, zero, suc, ◌+◌, ◌-◌, ◌≤◌, ◌<◌, List, [], ◌∷◌, ◌≡◌, refl, Bool, true, false, nat_le, length}
 use Rattle.std.proofs.Common.{sym, ap, ◌∙◌, arith, subst}
-use Rattle.std.proofs.lemmas.Bool.{le-leb, leb-true, leb-false}
+use Rattle.std.proofs.lemmas.Bool.{leb-true, leb-false}
 use Rattle.zir_tree.specs.declared.value.Val.{Val}
 use Rattle.zir_tree.specs.declared.value.Val.TheVariants.{Unit as UnitVal}
 use Rattle.zir_tree.specs.declared.ends.End.{End}
@@ -128,7 +128,7 @@ funded-turns (suc most) n m p h w s le e =
     subst (λ f. Funded n m (turns_proc (suc most) p s) (turns_proc f p (richer m s))) (sym z)
     (funded-tick n m s _ _ e
     (λ s1 lt e1. funded-then (p s1) (p (richer m s1)) n m s1.taken s1.ticks s1.ticks _ _ (omega arith) (w s1) (h s1 e1)
-        (λ v s2 lt2 e2. funded-turns most n m p h w s2 (omega arith) e2) (λ v s2. counts-turns (most + m) p w s2))
+    (λ v s2 lt2 e2. funded-turns most n m p h w s2 (omega arith) e2) (λ v s2. counts-turns (most + m) p w s2))
     (λ s1. (s1.taken, counts-then (p s1) _ s1.taken s1.ticks (w s1) (λ v s2. counts-turns (most + m) p w s2))))
 
 -- a spent process, whatever is tested before it
@@ -184,9 +184,11 @@ funded-pull ids (Ends (Trapped c) s1) l' s n m next next' s2 k t e le w h ih cou
     (λ lt. ap (Ends (Trapped c)) (at_point-richer s n m (over ids (point s1) (point s2)) e lt))
     (counts-pull ids (Ends (Trapped c) (richer m s1)) (richer m s) next' (richer m s2) s1.taken s1.ticks (refl, omega arith) counts))
 funded-pull ids (Ends Spent s1) l' s n m next next' s2 k t e le w h ih counts =
-    funded-spent (nat_le (s1.ticks + s2.ticks) (limit s)) n m _
-    (h.0, counts-earlier (pull ids (richer m s) next' (richer m s2) l') h.0 (n + 1 + s2.ticks) (n + 1) (omega arith)
-        (counts-pull ids l' (richer m s) next' (richer m s2) h.0 (n + 1) h.1 counts))
+    funded-spent (nat_le (s1.ticks + s2.ticks) (limit s)) n m _ (
+      h.0,
+      counts-earlier (pull ids (richer m s) next' (richer m s2) l') h.0 (n + 1 + s2.ticks) (n + 1) (omega arith)
+          (counts-pull ids l' (richer m s) next' (richer m s2) h.0 (n + 1) h.1 counts),
+    )
 funded-pull ids (Needs s1 g) (Needs s1' g') s n m next next' s2 k t e le w h ih counts =
     subst (λ s1'. Funded n m (pull ids s next s2 (Needs s1 g)) (pull ids (richer m s) next' (richer m s2) (Needs s1' g'))) (sym h.0)
     (let tk : s1.taken ≡ k = ap (λ s. s.taken) (sym h.0) ∙ w.0 in
@@ -221,9 +223,11 @@ funded-piped ids (Ends (Trapped c) s2) r' s n nb m j t2 base l l' e b le w h wl 
     (funded-inside s n m (over ids base (point s2)) _ _ base.taken e (λ lt. ap (Ends (Trapped c)) (at_point-richer s n m (over ids base (point s2)) e lt))
     (counts-piped ids (Ends (Trapped c) (richer m s2)) (richer m s) s2.taken s2.ticks base l' (refl, omega arith) wl))
 funded-piped ids (Ends Spent s2) r' s n nb m j t2 base l l' e b le w h wl hl =
-    funded-spent (nat_le (base.ticks + s2.ticks) (limit s)) n m _
-    (base.taken, counts-earlier (piped ids (richer m s) r' base l') base.taken (base.ticks + (nb + 1)) (n + 1) (omega arith)
-        (counts-piped ids r' (richer m s) h.0 (nb + 1) base l' h.1 wl))
+    funded-spent (nat_le (base.ticks + s2.ticks) (limit s)) n m _ (
+      base.taken,
+      counts-earlier (piped ids (richer m s) r' base l') base.taken (base.ticks + (nb + 1)) (n + 1) (omega arith)
+          (counts-piped ids r' (richer m s) h.0 (nb + 1) base l' h.1 wl),
+    )
 funded-piped ids (Needs s2 f) (Needs s2' g) s n nb m j t2 base l l' e b le w h wl hl =
     subst (λ s2'. Funded n m (piped ids s (Needs s2 f) base l) (piped ids (richer m s) (Needs s2' g) base l')) (sym h.0)
     (let same : s2'.ticks ≡ s2.ticks = ap (λ s. s.ticks) h.0 in

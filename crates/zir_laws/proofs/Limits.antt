@@ -2,7 +2,7 @@
 use Rattle.std.specs.Prelude.{ℕ, ◌-◌, List, ◌≡◌, nat_le}
 use Rattle.std.proofs.Common.{ap, ◌∙◌}
 use Rattle.zir_tree.specs.declared.value.Val.{Val}
-use Rattle.zir_meaning.specs.Trace.{State, Point, point, Out}
+use Rattle.zir_meaning.specs.Trace.{State, Point, point}
 use Rattle.zir_meaning.specs.Composition.{limit, over, at_point}
 use Rattle.zir_laws.specs.Process.{Proc, Gives, Ends, Needs, end_proc, holds, inside, pull, piped}
 use Rattle.zir_laws.proofs.Equations.{funext}
@@ -25,7 +25,7 @@ pull-limit ids s s' next next' s2 (Needs s1 g) e h =
     let p = over ids (point s1) (point s2) in
     inside-limit s s' p _ _ e
     (ap (λ q. Needs q (λ x. pull ids s next s2 (g x))) (at_point-limit s s' p e)
-        ∙ ap (Needs (at_point s' p)) (funext _ _ (λ x. pull-limit ids s s' next next' s2 (g x) e h)))
+    ∙ ap (Needs (at_point s' p)) (funext _ _ (λ x. pull-limit ids s s' next next' s2 (g x) e h)))
 
 -- a composition
 pub piped-limit : (ids : List ℕ) (s s' : State) (r : Proc) (b : Point) (l : Proc) → limit s ≡ limit s' → piped ids s r b l ≡ piped ids s' r b l
