@@ -16,7 +16,7 @@ use Rattle.zir_laws.specs.Budgets.{richer, Funds, Budgets}
 use Rattle.zir_laws.specs.Process.{Proc, Gives, Ends, Needs, spent_proc, run, NextProc, then_proc, tick_proc, tick_proc_of, with_proc, turns_proc, holds, inside, pull, piped, proc, members_proc}
 use Rattle.zir_laws.proofs.Counts.{Counts, NextCounts, counts-earlier, counts-then, counts-turns, counts-pull, counts-piped, counts-proc, counts-members}
 use Rattle.zir_laws.proofs.Late.{late-outs, late-end}
-use Rattle.zir_laws.proofs.Offers.{holds-within}
+use Rattle.zir_laws.proofs.Limits.{holds-within}
 use Rattle.zir_laws.proofs.Runs.{run-proc}
 
 -- each point of a process has more than n ticks

@@ -1,5 +1,6 @@
 pub mod Equations
 pub mod Counts
+pub mod Bounded
 pub mod Fuel
 pub mod Limits
 pub mod Offers
@@ -7,7 +8,6 @@ pub mod Late
 pub mod Joins
 pub mod Runs
 pub mod Feed
-pub mod Prefix
-pub mod Bounded
 pub mod Inputs
+pub mod Prefix
 pub mod Budget
