@@ -20,7 +20,7 @@ pub fn feeds()
     ensures { Feeds }
 {}
 
-/// Over the elements of an input, which come at no ticks, that is the component's own trace.
+/// Over the elements of an input, each given at no ticks, the trace is the component's own, but for the elements that it left.
 pub fn from_input()
     ensures { FromInput }
 {}
