@@ -1,6 +1,6 @@
 -- Within its budget a process stays inside its limit of ticks.
-use Rattle.std.specs.Prelude.{ℕ, zero, suc, ◌+◌, ◌-◌, ◌≤◌, List, ◌≡◌, Bool, true, false, nat_le, length, refl}
-use Rattle.std.proofs.Common.{sym, ap, ◌∙◌, arith, subst}
+use Rattle.std.specs.Prelude.{ℕ, zero, suc, ◌+◌, ◌≤◌, List, ◌≡◌, Bool, true, false, nat_le, length, refl}
+use Rattle.std.proofs.Common.{arith}
 use Rattle.std.proofs.lemmas.Bool.{leb-true}
 use Rattle.zir_tree.specs.declared.value.Val.{Val}
 use Rattle.zir_tree.specs.declared.value.Val.TheVariants.{Unit as UnitVal}
@@ -8,7 +8,7 @@ use Rattle.zir_tree.specs.declared.ends.End.{End}
 use Rattle.zir_tree.specs.declared.ends.End.TheVariants.{Value, Starved, Trap as Trapped, Spent}
 use Rattle.zir_tree.specs.declared.tree.Expr.{Expr, Unit as UnitExpr, Bit, Variable, Xor', end_of-Expr, more_of-Expr}
 use Rattle.zir_tree.specs.declared.tree.Comp.{Comp, Take, Emit, Return, Block', Repeat', Pipe', end_of-Comp, more_of-Comp, Row_of-Member, end_of-Member, more_of-Member}
-use Rattle.zir_meaning.specs.Trace.{State, Point, point, Out}
+use Rattle.zir_meaning.specs.Trace.{State, Point, point}
 use Rattle.zir_meaning.specs.Evaluation.{Eval, Got, Traps, RunsOut, ev, then_eval}
 use Rattle.zir_meaning.specs.Composition.{limit, over, at_point, fresh}
 use Rattle.zir_meaning.specs.Component.{bind, assigns}

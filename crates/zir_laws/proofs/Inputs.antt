@@ -6,7 +6,7 @@ use Rattle.zir_tree.specs.declared.value.Val.{Val}
 use Rattle.zir_tree.specs.declared.ends.End.{End}
 use Rattle.zir_tree.specs.declared.ends.End.TheVariants.{Value, Starved, Trap as Trapped, Spent}
 use Rattle.zir_meaning.specs.Store.{Store}
-use Rattle.zir_meaning.specs.Trace.{State, Point, point, Out, Trace, ends, gives}
+use Rattle.zir_meaning.specs.Trace.{State, Point, point, Trace, ends, gives}
 use Rattle.zir_meaning.specs.Composition.{limit, over, at_point, within}
 use Rattle.zir_meaning.specs.Received.{from_input}
 use Rattle.zir_laws.specs.Process.{Proc, Gives, Ends, Needs, run, proc}
@@ -16,7 +16,7 @@ use Rattle.zir_laws.proofs.Counts.{Counts, counts-proc}
 use Rattle.zir_laws.proofs.Late.{within-spent}
 use Rattle.zir_laws.proofs.Bounded.{Bounded, bounded-proc}
 use Rattle.zir_laws.proofs.Runs.{run-proc}
-use Rattle.zir_laws.proofs.Feeds.{feeds}
+use Rattle.zir_laws.proofs.Feed.{feeds}
 
 -- where a run begins, with so many ticks left
 abbrev begin : ℕ → Store → State

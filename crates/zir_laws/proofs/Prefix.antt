@@ -4,7 +4,7 @@ use Rattle.std.proofs.Common.{ap, arith, subst}
 use Rattle.zir_tree.specs.declared.value.Val.{Val}
 use Rattle.zir_tree.specs.declared.ends.End.{End}
 use Rattle.zir_tree.specs.declared.ends.End.TheVariants.{Value, Starved, Trap as Trapped, Spent}
-use Rattle.zir_meaning.specs.Trace.{State, Out, Trace, gives}
+use Rattle.zir_meaning.specs.Trace.{Out, Trace, gives}
 use Rattle.zir_meaning.specs.Component.{tr}
 use Rattle.zir_laws.specs.Prefixes.{Extends, Prefixes}
 use Rattle.zir_laws.specs.Process.{Proc, Gives, Ends, Needs, run, proc}
