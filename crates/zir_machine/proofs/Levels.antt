@@ -13,24 +13,26 @@ use Rattle.zir_tree.specs.declared.tree.Comp.{Comp, Block as BlockComp, Repeat a
 use Rattle.zir_meaning.specs.Trace.{State, point}
 use Rattle.zir_meaning.specs.Component.{bind, leave}
 use Rattle.zir_laws.specs.Process.{Proc, Ends, NextProc, then_proc, turns_proc, proc, list_proc, spent_proc}
-use Rattle.zir_laws.proofs.Equations.{block-list, repeat-turns}
+use Rattle.zir_laws.proofs.Equations.{block-list, repeat-turns, pipe-piped}
 use Rattle.zir_laws.proofs.Fuel.{loop-next}
 use Rattle.zir_machine.specs.declared.progress.Focus.{Focus}
 use Rattle.zir_machine.specs.declared.progress.Focus.TheVariants.{Begin, Ended, Giving, Given, Spent}
 use Rattle.zir_machine.specs.declared.node.Node.{Node, Block, Repeat, Pipe, the_lemmas}
 use Rattle.zir_machine.specs.declared.node.Part.{Part}
 use Rattle.zir_machine.specs.declared.node.Link.{Link}
-use Rattle.zir_machine.specs.Understood.{Meant, Held, Linked, members_of, row_in, row_sound, again, rest_of_row, link_comp}
-use Rattle.zir_machine.specs.Nodes.{row_of, loop_of, link_of, meant, held, linked, comp_of, proc_in, is_sound}
+use Rattle.zir_machine.specs.declared.progress.Span.{Span}
+use Rattle.zir_machine.specs.declared.node.Loop.{Loop}
+use Rattle.zir_machine.specs.Understood.{Meant, Held, Looped, Linked, members_of, row_in, row_sound, again, rest_of_row, row_comp, loop_does, loop_comp, link_starts, link_does, link_sound, link_comp}
+use Rattle.zir_machine.specs.Nodes.{row_of, loop_of, link_of, meant, held, looped, linked, comp_of, proc_in, is_sound}
 
-pub meant-Block : (v : Vec Part Global) (at base : ℕ) (p : Place) → meant (Block v at base p) ≡ row_of (map held v.items) at base p
-meant-Block v at base p = search (rules, the_lemmas)
+pub meant-Block : (v : Vec Part Global) (span : Span) → meant (Block v span) ≡ row_of (map held v.items) span
+meant-Block v span = search (rules, the_lemmas)
 
-pub meant-Repeat : (b : Box Node Global) (p : Place) → meant (Repeat b p) ≡ loop_of (meant b.value) p
-meant-Repeat b p = search (rules, the_lemmas)
+pub meant-Repeat : (b : Box Loop Global) → meant (Repeat b) ≡ loop_of (looped b.value)
+meant-Repeat b = search (rules, the_lemmas)
 
-pub meant-Pipe : (b : Box Link Global) (p : Place) → meant (Pipe b p) ≡ link_of (linked b.value) p
-meant-Pipe b p = search (rules, the_lemmas)
+pub meant-Pipe : (b : Box Link Global) → meant (Pipe b) ≡ link_of (linked b.value)
+meant-Pipe b = search (rules, the_lemmas)
 
 -- what follows the part at this place
 abbrev pub after_part : List Part → ℕ → ℕ → Option Ident → NextProc
@@ -114,39 +116,63 @@ finishes ps k base v f s s' h e g =
     ∙ ap (λ f. row_in [] 0 base f s') (sym e)
     ∙ sym (row_past ps k base f s' h)
 
--- a block begins
-pub block_begins : (m : Node) (u v w : Vec Part Global) (at base n : ℕ) (p q : Place) (f : Focus) (s s' : State) → m ≡ Block v at base p → u ≡ v → n ≡ length s.store →
-    list_proc (members_of (map held (drop 0 u.items))) n UnitVal s ≡ row_in (map held w.items) 0 n f s' → proc (comp_of m) s ≡ proc_in (Block w 0 n q) f s'
-block_begins m u v w at base n p q f s s' e z h g =
-    ap (λ m. proc (comp_of m) s) e
-    ∙ ap (λ r. proc r.what s) (meant-Block v at base p)
-    ∙ block-list (members_of (map held v.items)) p s
-    ∙ ap (λ n. list_proc (members_of (map held v.items)) n UnitVal s) (sym h)
-    ∙ ap (λ ps. list_proc (members_of (map held ps)) n UnitVal s) (sym (drop-none v.items))
-    ∙ ap (λ v. list_proc (members_of (map held (drop 0 v.items))) n UnitVal s) (sym z)
-    ∙ g
-    ∙ sym (ap (λ r. r.does f s') (meant-Block w 0 n q))
-  where
-    drop-none : (ps : List Part) → drop 0 ps ≡ ps
-    drop-none [] = refl
-    drop-none (p ∷ ps) = refl
-
-pub block_sound : (w : Vec Part Global) (at base : ℕ) (q : Place) (f : Focus) (s : State) → row_sound (map held w.items) at f s ≡ true → is_sound (Block w at base q) f s ≡ true
-block_sound w at base q f s h = ap (λ r. r.sound f s) (meant-Block w at base q) ∙ h
-
--- a block stays the same component
-pub block_same : (m : Node) (u v w : Vec Part Global) (at base at' base' : ℕ) (p q : Place) → m ≡ Block v at base p → u ≡ v → q ≡ p → members_of (map held w.items) ≡ members_of (map held u.items) →
-    comp_of (Block w at' base' q) ≡ comp_of m
-block_same m u v w at base at' base' p q e z y h =
-    ap (λ r. r.what) (meant-Block w at' base' q) ∙ ap (λ ms. BlockComp ms q) h ∙ ap (λ v. BlockComp (members_of (map held v.items)) q) z ∙ ap (BlockComp (members_of (map held v.items))) y
-    ∙ sym (ap (λ r. r.what) (meant-Block v at base p)) ∙ sym (ap comp_of e)
-
 -- a turn of a loop begins
 pub turn_begins : (c c' : Comp) (m : ℕ) (s s1 : State) (q : Proc) → s.left ≡ suc m → s1 ≡ record s { ticks = s.ticks + 1; left = m } → proc c s1 ≡ q → c' ≡ c → turns_proc s.left (proc c) s ≡ then_proc q (again c')
 turn_begins c c' m s s1 q e g h k =
     loop-next c m s e ∙ ap (λ s. then_proc (proc c s) (again c)) (sym g) ∙ ap (λ p. then_proc p (again c)) h ∙ ap (λ c. then_proc q (again c)) (sym k)
 
 -- no turn begins where no tick is left
-pub turn_spent : (n : Node) (c : Comp) (s s' : State) (f : Focus) → s.left ≡ 0 → f ≡ Spent → turns_proc s.left (proc c) s ≡ then_proc (proc_in n f s') (again c)
-turn_spent n c s s' f e h =
-    ap (λ k. turns_proc k (proc c) (record s { left = s.left })) e ∙ sym (ap (λ f. then_proc (proc_in n f s') (again c)) h ∙ ap (λ p. then_proc p (again c)) ((meant n).spent s'))
+pub turn_spent : (l : Looped) (s s' : State) (f : Focus) → s.left ≡ 0 → f ≡ Spent → turns_proc s.left (proc l.body.what) s ≡ loop_does l f s'
+turn_spent l s s' f e h =
+    ap (λ k. turns_proc k (proc l.body.what) (record s { left = s.left })) e ∙ sym (ap (λ f. loop_does l f s') h ∙ ap (λ p. then_proc p (again l.body.what)) (l.body.spent s'))
+
+-- a node whose kind is known means what its parts mean
+pub as_block : (m : Node) (u v w : Vec Part Global) (span span' : Span) (n : ℕ) (f : Focus) (s s' : State) → m ≡ Block v span → u ≡ v → span'.at ≡ 0 → span'.base ≡ n → n ≡ length s.store →
+    list_proc (members_of (map held (drop 0 u.items))) n UnitVal s ≡ row_in (map held w.items) 0 n f s' → proc (comp_of m) s ≡ proc_in (Block w span') f s'
+as_block m u v w span span' n f s s' e z h k len g =
+    ap (λ m. proc (comp_of m) s) e ∙ ap (λ r. proc r.what s) (meant-Block v span) ∙ block-list (members_of (map held v.items)) span.place s
+    ∙ ap (λ n. list_proc (members_of (map held v.items)) n UnitVal s) (sym len)
+    ∙ ap (λ ps. list_proc (members_of (map held ps)) n UnitVal s) (sym (drop-none v.items))
+    ∙ ap (λ v. list_proc (members_of (map held (drop 0 v.items))) n UnitVal s) (sym z)
+    ∙ g
+    ∙ ap (λ k. row_in (map held w.items) k n f s') (sym h)
+    ∙ ap (λ n. row_in (map held w.items) span'.at n f s') (sym k)
+    ∙ sym (ap (λ r. r.does f s') (meant-Block w span'))
+  where
+    drop-none : (ps : List Part) → drop 0 ps ≡ ps
+    drop-none [] = refl
+    drop-none (p ∷ ps) = refl
+
+pub as_loop : (m x : Node) (a b b' : Box Loop Global) (f : Focus) (s s' : State) → m ≡ Repeat b → a ≡ b → x ≡ Repeat b' →
+    turns_proc s.left (proc (looped a.value).body.what) s ≡ loop_does (looped b'.value) f s' → proc (comp_of m) s ≡ proc_in x f s'
+as_loop m x a b b' f s s' e z y h =
+    ap (λ m. proc (comp_of m) s) e ∙ ap (λ r. proc r.what s) (meant-Repeat b) ∙ repeat-turns (looped b.value).body.what (looped b.value).place s
+    ∙ ap (λ b. turns_proc s.left (proc (looped b.value).body.what) s) (sym z) ∙ h ∙ sym (ap (λ r. r.does f s') (meant-Repeat b')) ∙ sym (ap (λ x. proc_in x f s') y)
+
+pub as_pipe : (m x : Node) (a b b' : Box Link Global) (f : Focus) (s s' : State) → m ≡ Pipe b → a ≡ b → x ≡ Pipe b' →
+    link_starts (linked a.value) s ≡ link_does (linked b'.value) f s' → proc (comp_of m) s ≡ proc_in x f s'
+as_pipe m x a b b' f s s' e z y h =
+    ap (λ m. proc (comp_of m) s) e ∙ ap (λ r. proc r.what s) (meant-Pipe b) ∙ pipe-piped (linked b.value).left.what (linked b.value).right.what (linked b.value).place s
+    ∙ ap (λ b. link_starts (linked b.value) s) (sym z) ∙ h ∙ sym (ap (λ r. r.does f s') (meant-Pipe b')) ∙ sym (ap (λ x. proc_in x f s') y)
+
+pub block_sound : (w : Vec Part Global) (span : Span) (f : Focus) (s : State) → row_sound (map held w.items) span.at f s ≡ true → is_sound (Block w span) f s ≡ true
+block_sound w span f s h = ap (λ r. r.sound f s) (meant-Block w span) ∙ h
+
+pub loop_sound : (x : Node) (b : Box Loop Global) (f : Focus) (s : State) → x ≡ Repeat b → (looped b.value).body.sound f s ≡ true → is_sound x f s ≡ true
+loop_sound x b f s y h = ap (λ x. is_sound x f s) y ∙ ap (λ r. r.sound f s) (meant-Repeat b) ∙ h
+
+pub pipe_sound : (x : Node) (b : Box Link Global) (f : Focus) (s : State) → x ≡ Pipe b → link_sound (linked b.value) f s ≡ true → is_sound x f s ≡ true
+pipe_sound x b f s y h = ap (λ x. is_sound x f s) y ∙ ap (λ r. r.sound f s) (meant-Pipe b) ∙ h
+
+pub block_same : (m : Node) (u v w : Vec Part Global) (span span' : Span) → m ≡ Block v span → u ≡ v → span'.place ≡ span.place → members_of (map held w.items) ≡ members_of (map held u.items) → comp_of (Block w span') ≡ comp_of m
+block_same m u v w span span' e z y h =
+    ap (λ r. r.what) (meant-Block w span') ∙ ap (λ ms. BlockComp ms span'.place) h ∙ ap (λ v. BlockComp (members_of (map held v.items)) span'.place) z ∙ ap (BlockComp (members_of (map held v.items))) y
+    ∙ sym (ap (λ r. r.what) (meant-Block v span)) ∙ sym (ap comp_of e)
+
+pub loop_same : (m x : Node) (a b b' : Box Loop Global) → m ≡ Repeat b → a ≡ b → x ≡ Repeat b' → loop_comp (looped b'.value) ≡ loop_comp (looped a.value) → comp_of x ≡ comp_of m
+loop_same m x a b b' e z y h =
+    ap comp_of y ∙ ap (λ r. r.what) (meant-Repeat b') ∙ h ∙ ap (λ b. loop_comp (looped b.value)) z ∙ sym (ap (λ r. r.what) (meant-Repeat b)) ∙ sym (ap comp_of e)
+
+pub pipe_same : (m x : Node) (a b b' : Box Link Global) → m ≡ Pipe b → a ≡ b → x ≡ Pipe b' → link_comp (linked b'.value) ≡ link_comp (linked a.value) → comp_of x ≡ comp_of m
+pipe_same m x a b b' e z y h =
+    ap comp_of y ∙ ap (λ r. r.what) (meant-Pipe b') ∙ h ∙ ap (λ b. link_comp (linked b.value)) z ∙ sym (ap (λ r. r.what) (meant-Pipe b)) ∙ sym (ap comp_of e)

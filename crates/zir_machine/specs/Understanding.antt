@@ -14,7 +14,7 @@ use Rattle.zir_machine.specs.declared.progress.Focus.{Focus}
 use Rattle.zir_machine.specs.declared.progress.Focus.TheVariants.{Begin, Ended, Giving, Given, Spent}
 use Rattle.zir_machine.specs.Standing.{base_point}
 use Rattle.zir_machine.specs.Late.{Late, needs}
-use Rattle.zir_machine.specs.Understood.{ended_in, leaf, Meant, Held, Linked, members_of, again, rest_of_row, row_in, row_sound, loop_in, left_state, right_state, left_does, right_does, link_goes, link_does, floor_of, goes_sound, link_sound}
+use Rattle.zir_machine.specs.Understood.{ended_in, leaf, Meant, Held, Linked, members_of, again, rest_of_row, row_in, row_sound, Looped, loop_does, left_state, right_state, left_does, right_does, link_goes, link_does, floor_of, goes_sound, link_sound}
 use Rattle.zir_machine.specs.Lateness.{late-counts, late-earlier, late-then, late-piped, late-pull}
 
 -- a test of two parts
@@ -55,6 +55,11 @@ row_spent [] k base s = refl
 row_spent (h ∷ hs) zero base s = ap (λ p. then_proc p (rest_of_row hs base h.bound)) (h.meant.spent s)
 row_spent (h ∷ hs) (suc k) base s = row_spent hs k base s
 
+pub row_spent_sound : (hs : List Held) (k : ℕ) (s : State) → row_sound hs k Spent s ≡ true
+row_spent_sound [] k s = refl
+row_spent_sound (h ∷ hs) zero s = h.meant.spent_sound s
+row_spent_sound (h ∷ hs) (suc k) s = row_spent_sound hs k s
+
 pub row_giving : (hs : List Held) (k base : ℕ) (v : Val) (s : State) → row_in hs k base (Giving v) s ≡ Gives (record { value = v; at = point s }) (row_in hs k base Given s)
 row_giving [] k base v s = refl
 row_giving (h ∷ hs) zero base v s = ap (λ p. then_proc p (rest_of_row hs base h.bound)) (h.meant.giving v s)
@@ -65,15 +70,15 @@ row_late [] k base f s h = ended_late f s
 row_late (m ∷ hs) zero base f s h = late-then (m.meant.does f s) _ s.ticks (m.meant.late f s h) (λ v s'. list-late (members_of hs) base v (bind m.bound v s'))
 row_late (m ∷ hs) (suc k) base f s h = row_late hs k base f s h
 
-pub loop_spent : (m : Meant) (s : State) → loop_in m Spent s ≡ spent_proc
-loop_spent m s = ap (λ p. then_proc p (again m.what)) (m.spent s)
+pub loop_spent : (l : Looped) (s : State) → loop_does l Spent s ≡ spent_proc
+loop_spent l s = ap (λ p. then_proc p (again l.body.what)) (l.body.spent s)
 
-pub loop_giving : (m : Meant) (v : Val) (s : State) → loop_in m (Giving v) s ≡ Gives (record { value = v; at = point s }) (loop_in m Given s)
-loop_giving m v s = ap (λ p. then_proc p (again m.what)) (m.giving v s)
+pub loop_giving : (l : Looped) (v : Val) (s : State) → loop_does l (Giving v) s ≡ Gives (record { value = v; at = point s }) (loop_does l Given s)
+loop_giving l v s = ap (λ p. then_proc p (again l.body.what)) (l.body.giving v s)
 
-pub loop_late : (m : Meant) (f : Focus) (s : State) → m.sound f s ≡ true → Late s.ticks (loop_in m f s)
-loop_late m f s h = late-then (m.does f s) _ s.ticks (m.late f s h)
-    (λ v s'. late-counts (turns_proc s'.left (proc m.what) s') s'.taken s'.ticks (counts-turns s'.left (proc m.what) (counts-proc m.what) s'))
+pub loop_late : (l : Looped) (f : Focus) (s : State) → l.body.sound f s ≡ true → Late s.ticks (loop_does l f s)
+loop_late l f s h = late-then (l.body.does f s) _ s.ticks (l.body.late f s h)
+    (λ v s'. late-counts (turns_proc s'.left (proc l.body.what) s') s'.taken s'.ticks (counts-turns s'.left (proc l.body.what) (counts-proc l.body.what) s'))
 
 -- what a sound link is
 pub record Sound (l : Linked) (s : State) : Type 0 where

@@ -41,6 +41,7 @@ pub record Meant : Type 0 where
   pub does : Focus → State → Proc
   pub sound : Focus → State → Bool
   pub spent : (s : State) → does Spent s ≡ spent_proc
+  pub spent_sound : (s : State) → sound Spent s ≡ true
   pub giving : (v : Val) (s : State) → does (Giving v) s ≡ Gives (record { value = v; at = point s }) (does Given s)
   pub late : (f : Focus) (s : State) → sound f s ≡ true → Late s.ticks (does f s)
 
@@ -48,6 +49,11 @@ pub record Meant : Type 0 where
 pub record Held : Type 0 where
   pub bound : Option Ident
   pub meant : Meant
+
+-- a loop, understood
+pub record Looped : Type 0 where
+  pub body : Meant
+  pub place : Place
 
 -- two sides, understood, and where they stand
 pub record Linked : Type 0 where
@@ -57,6 +63,7 @@ pub record Linked : Type 0 where
   pub left_store : List Slot
   pub right_progress : Progress
   pub base : Base
+  pub place : Place
 
 abbrev pub members_of : List Held → List Member
 members_of [] = []
@@ -81,8 +88,14 @@ row_sound [] at f s = true
 row_sound (h ∷ hs) zero f s = h.meant.sound f s
 row_sound (h ∷ hs) (suc k) f s = row_sound hs k f s
 
-abbrev pub loop_in : Meant → Focus → State → Proc
-loop_in m f s = then_proc (m.does f s) (again m.what)
+abbrev pub row_comp : List Held → Place → Comp
+row_comp hs p = BlockComp (members_of hs) p
+
+abbrev pub loop_does : Looped → Focus → State → Proc
+loop_does l f s = then_proc (l.body.does f s) (again l.body.what)
+
+abbrev pub loop_comp : Looped → Comp
+loop_comp l = RepeatComp l.body.what l.place
 
 abbrev pub left_state : Linked → State
 left_state l = state_of l.left_progress l.left_store
@@ -129,5 +142,5 @@ link_sound l (Giving v) s = goes_sound l s
 link_sound l Given s = goes_sound l s
 link_sound l Spent s = true
 
-abbrev pub link_comp : Linked → Place → Comp
-link_comp l p = PipeComp l.left.what l.right.what p
+abbrev pub link_comp : Linked → Comp
+link_comp l = PipeComp l.left.what l.right.what l.place

@@ -7,11 +7,11 @@ ghost use Rattle.zir_meaning.specs.Store.{bound};
 ghost use Rattle.zir_laws.specs.Process.{Proc, proc, list_proc, turns_proc, then_proc, piped};
 ghost use Rattle.zir_machine.specs.Standing.{state_of, base_point, IsReady, ended_value, Turned};
 ghost use Rattle.zir_machine.specs.Steps.{Stepped, Paced};
-ghost use Rattle.zir_machine.specs.Understood.{leaf, ended_in, again, members_of, row_in, row_sound, link_starts, link_goes, link_does, link_comp, link_sound, goes_sound};
-ghost use Rattle.zir_machine.specs.Nodes.{comp_of, proc_in, is_sound, held, linked};
+ghost use Rattle.zir_machine.specs.Understood.{leaf, ended_in, again, members_of, row_in, row_sound, loop_does, loop_comp, link_starts, link_goes, link_does, link_comp, link_sound, goes_sound};
+ghost use Rattle.zir_machine.specs.Nodes.{comp_of, proc_in, is_sound, held, looped, linked};
 
 use crate::eval::eval;
-use crate::progress::{Base, Focus, Progress};
+use crate::progress::{Base, Focus, Progress, Span};
 use std::alloc::{AllocError, Global};
 use zir_steps::answer::Answer;
 use zir_tree::place::Place;
@@ -25,10 +25,10 @@ pub enum Node {
     Take(Place),
     Emit(Expr, Place),
     Return(Expr, Place),
-    /// Its parts, the one that runs, and how many variables were in scope when it began.
-    Block(Vec<Part>, usize, usize, Place),
-    Repeat(Box<Node>, Place),
-    Pipe(Box<Link>, Place),
+    /// Its parts, and which of them runs.
+    Block(Vec<Part>, Span),
+    Repeat(Box<Loop>),
+    Pipe(Box<Link>),
 }
 
 /// A member of a block.
@@ -37,6 +37,14 @@ pub enum Node {
 pub struct Part {
     pub bound: Option<Ident>,
     pub node: Node,
+}
+
+/// The body of a `repeat`.
+#[cycle(node)]
+#[derive(Drop)]
+pub struct Loop {
+    pub body: Node,
+    pub place: Place,
 }
 
 /// The two sides of a composition, and where the left side stood at the last output that the right side took.
@@ -49,6 +57,7 @@ pub struct Link {
     pub left_store: Vec<Slot>,
     pub right_progress: Progress,
     pub base: Base,
+    pub place: Place,
 }
 
 /// What a component that has begun answers by itself.
@@ -114,18 +123,21 @@ impl Node {
                 progress.focus = Focus::Begin;
                 Ok(())
             }
-            Node::Block(parts, at, base, _) => {
-                *at = 0;
-                *base = depth(store);
-                enter_part(parts, 0, *base, Val::Unit, progress, store)?;
+            Node::Block(parts, span) => {
+                *span = Span {
+                    at: 0,
+                    base: depth(store),
+                    place: span.place,
+                };
+                enter_part(parts, 0, span.base, Val::Unit, progress, store)?;
                 Ok(())
             }
-            Node::Repeat(body, _) => {
+            Node::Repeat(body) => {
                 turn(body, progress, store)?;
                 Ok(())
             }
-            Node::Pipe(link, _) => {
-                link.enter(progress, store)?;
+            Node::Pipe(link) => {
+                enter_link(link, progress, store)?;
                 Ok(())
             }
         }
@@ -173,22 +185,49 @@ fn enter_part(
     }
 }
 
-/// Begins a turn of a loop, which costs a tick.
+impl Loop {
+    /// Begins a turn, which costs a tick.
+    #[cycle(entering)]
+    fn turn(&mut self, progress: &mut Progress, store: &mut Vec<Slot>) -> Result<bool, AllocError>
+        ensures enters { OnOk result (turns_proc progress.old.left (proc (looped self.old).body.what) (state_of progress.old store.old.items) ≡ loop_does (looped self.new) progress.new.focus (state_of progress.new store.new.items)) }
+        ensures sound { OnOk result ((looped self.new).body.sound progress.new.focus (state_of progress.new store.new.items) ≡ true) }
+        ensures ready { OnOk result (IsReady progress.new.focus) }
+        ensures rises { OnOk result (progress.old.ticks ≤ progress.new.ticks) }
+        ensures turns { IfOk result (λ turned. Turned turned progress.old progress.new) }
+        ensures kept { loop_comp (looped self.new) ≡ loop_comp (looped self.old) }
+    {
+        if progress.tick() {
+            self.body.enter(progress, store)?;
+            Ok(true)
+        } else {
+            Ok(false)
+        }
+    }
+}
+
+/// Begins a turn of a loop.
 #[cycle(entering)]
-fn turn(body: &mut Box<Node>, progress: &mut Progress, store: &mut Vec<Slot>) -> Result<bool, AllocError>
-    ensures enters { OnOk result (turns_proc progress.old.left (proc (comp_of body.old.value)) (state_of progress.old store.old.items) ≡ then_proc (proc_in body.new.value progress.new.focus (state_of progress.new store.new.items)) (again (comp_of body.new.value))) }
-    ensures sound { OnOk result (is_sound body.new.value progress.new.focus (state_of progress.new store.new.items) ≡ true) }
+fn turn(body: &mut Box<Loop>, progress: &mut Progress, store: &mut Vec<Slot>) -> Result<bool, AllocError>
+    ensures enters { OnOk result (turns_proc progress.old.left (proc (looped body.old.value).body.what) (state_of progress.old store.old.items) ≡ loop_does (looped body.new.value) progress.new.focus (state_of progress.new store.new.items)) }
+    ensures sound { OnOk result ((looped body.new.value).body.sound progress.new.focus (state_of progress.new store.new.items) ≡ true) }
     ensures ready { OnOk result (IsReady progress.new.focus) }
     ensures rises { OnOk result (progress.old.ticks ≤ progress.new.ticks) }
     ensures turns { IfOk result (λ turned. Turned turned progress.old progress.new) }
-    ensures kept { comp_of body.new.value ≡ comp_of body.old.value }
+    ensures kept { loop_comp (looped body.new.value) ≡ loop_comp (looped body.old.value) }
 {
-    if progress.tick() {
-        body.enter(progress, store)?;
-        Ok(true)
-    } else {
-        Ok(false)
-    }
+    body.turn(progress, store)
+}
+
+/// Begins a composition.
+#[cycle(entering)]
+fn enter_link(link: &mut Box<Link>, progress: &mut Progress, store: &mut Vec<Slot>) -> Result<(), AllocError>
+    ensures enters { OnOk result (link_starts (linked link.old.value) (state_of progress.old store.old.items) ≡ link_does (linked link.new.value) progress.new.focus (state_of progress.new store.new.items)) }
+    ensures sound { OnOk result (link_sound (linked link.new.value) progress.new.focus (state_of progress.new store.new.items) ≡ true) }
+    ensures ready { OnOk result (IsReady progress.new.focus) }
+    ensures rises { OnOk result (progress.old.ticks ≤ progress.new.ticks) }
+    ensures kept { link_comp (linked link.new.value) ≡ link_comp (linked link.old.value) }
+{
+    link.enter(progress, store)
 }
 
 impl Link {
@@ -199,7 +238,7 @@ impl Link {
         ensures sound { OnOk result (link_sound (linked self.new) progress.new.focus (state_of progress.new store.new.items) ≡ true) }
         ensures ready { OnOk result (IsReady progress.new.focus) }
         ensures rises { OnOk result (progress.old.ticks ≤ progress.new.ticks) }
-        ensures kept { (place : Place) → link_comp (linked self.new) place ≡ link_comp (linked self.old) place }
+        ensures kept { link_comp (linked self.new) ≡ link_comp (linked self.old) }
     {
         self.base = Base {
             taken: progress.taken,

@@ -2,6 +2,7 @@
 
 ghost use Rattle.std.specs.Prelude.{◌≡◌, ◌+◌, ◌≤◌, ◌<◌, ◌^◌, Option, Some, None};
 
+use zir_tree::place::Place;
 use zir_tree::value::Val;
 
 /// Where a component stands.
@@ -37,6 +38,14 @@ pub struct Base {
     pub ticks: u64,
     pub ghost counted: { taken ≤ ticks },
     pub ghost bounded: { ticks < 2 ^ 62 },
+}
+
+/// Which part of a block runs, how many variables were in scope when the block began, and the block's place.
+#[derive(Clone, Copy, Debug)]
+pub struct Span {
+    pub at: usize,
+    pub base: usize,
+    pub place: Place,
 }
 
 impl Progress {
