@@ -1,0 +1,21 @@
+-- The calls of an object in memory, some of which are to fail.
+use Rattle.std.specs.Prelude.{ℕ, Bool, ◌≡◌, ◌+◌, ◌-◌, ◌^◌, min, Contains, if◌then◌else◌, List}
+use Rattle.zir_outside.specs.declared.calls.Calls.{Calls}
+
+-- one more, up to the largest number of 64 bits
+abbrev pub one_more : ℕ → ℕ
+one_more n = min (n + 1) (2 ^ 64 - 1)
+
+-- the next call is one of those listed, which are counted from 1
+abbrev pub IsNextListed : Calls → Type 0
+IsNextListed calls = Contains calls.listed.items (one_more calls.made)
+
+-- no call was made yet, and these are to fail
+abbrev pub IsFresh : Calls → List ℕ → Type 0
+IsFresh calls failing = (calls.listed.items ≡ failing) × (calls.made ≡ 0) × (calls.faults ≡ 0)
+
+-- one call was made, which was a fault or none
+pub record MadeOne (old new : Calls) (fault : Bool) : Type 0 where
+  pub listed : new.listed ≡ old.listed
+  pub made : new.made ≡ one_more old.made
+  pub faults : new.faults ≡ (if fault then one_more old.faults else old.faults)
