@@ -1,5 +1,6 @@
 -- The calls of an object in memory, some of which are to fail.
-use Rattle.std.specs.Prelude.{ℕ, Bool, ◌≡◌, ◌+◌, ◌-◌, ◌^◌, min, Contains, if◌then◌else◌, List}
+use Rattle.std.specs.Prelude.{ℕ, Bool, ◌≡◌, ◌==◌, ◌+◌, ◌-◌, ◌^◌, min, if◌then◌else◌, List}
+use Rattle.std.specs.List.{list_any}
 use Rattle.zir_outside.specs.declared.calls.Calls.{Calls}
 
 -- one more, up to the largest number of 64 bits
@@ -7,8 +8,8 @@ abbrev pub one_more : ℕ → ℕ
 one_more n = min (n + 1) (2 ^ 64 - 1)
 
 -- the next call is one of those listed, which are counted from 1
-abbrev pub IsNextListed : Calls → Type 0
-IsNextListed calls = Contains calls.listed.items (one_more calls.made)
+abbrev pub is_next_listed : Calls → Bool
+is_next_listed calls = list_any (λ n. n == one_more calls.made) calls.listed.items
 
 -- no call was made yet, and these are to fail
 abbrev pub IsFresh : Calls → List ℕ → Type 0

@@ -4,3 +4,4 @@ pub mod Loads
 pub mod Memory
 pub mod Reads
 pub mod Sinks
+pub mod Texts

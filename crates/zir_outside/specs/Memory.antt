@@ -2,7 +2,9 @@
 use Rattle.std.specs.Prelude.{ℕ, List, drop}
 use Rattle.zir_outside.specs.declared.calls.Calls.{Calls}
 use Rattle.zir_outside.specs.declared.memory.MemSource.{MemSource}
+use Rattle.zir_outside.specs.declared.memory.MemShelf.{MemShelf}
 use Rattle.zir_outside.specs.declared.memory.MemSink.{MemSink}
+use Rattle.zir_outside.specs.Texts.{Named}
 
 -- the bytes that the source has not given yet
 abbrev pub unread : MemSource → List ℕ
@@ -31,3 +33,11 @@ room_of sink = sink.room
 -- the calls that were made of the sink, and those that are to fail
 abbrev pub sink_calls : MemSink → Calls
 sink_calls sink = sink.calls
+
+-- the texts of the shelf with their names
+abbrev pub texts_of : MemShelf → List Named
+texts_of shelf = shelf.texts.items
+
+-- the calls that were made of the shelf, and those that are to fail
+abbrev pub shelf_calls : MemShelf → Calls
+shelf_calls shelf = shelf.calls

@@ -1,7 +1,7 @@
 //! Counts the calls of an object in memory, and lets those fail that are listed.
 
-ghost use Rattle.std.specs.Prelude.{◌≡◌, ◌≤◌, ◌↔◌, IsTrue, true};
-ghost use Rattle.zir_outside.specs.Calls.{IsFresh, IsNextListed, MadeOne, one_more};
+ghost use Rattle.std.specs.Prelude.{◌≡◌, ◌≤◌, true};
+ghost use Rattle.zir_outside.specs.Calls.{IsFresh, is_next_listed, MadeOne, one_more};
 
 /// The calls made so far, those that are to fail, and how many failed.
 #[derive(Debug, Drop)]
@@ -25,7 +25,7 @@ impl Calls {
 
     /// Counts one more call and says whether it is to fail.
     pub fn next_fails(&mut self) -> bool
-        ensures listed { IsTrue result ↔ IsNextListed self.old }
+        ensures listed { result ≡ is_next_listed self.old }
         ensures counted { MadeOne self.old self.new result }
         ensures later { self.old.faults ≤ self.new.faults }
     {

@@ -4,13 +4,16 @@
 
 mod calls;
 pub mod memory;
+pub mod real;
 
 ghost use Rattle.std.specs.Prelude.{ℕ, ◌≡◌, ◌≤◌, ◌⊎◌, [], List, Option, IfOk, OnOk, OnErr, IsErrOf, length};
 ghost use Rattle.zir_outside.specs.Causes.{HasCause, Rose};
 ghost use Rattle.zir_outside.specs.Reads.{Reads};
 ghost use Rattle.zir_outside.specs.Sinks.{Grew, GrewPart, Tells};
-ghost use Rattle.zir_outside.specs.Loads.{Texts, Loads, IsAbsent};
+ghost use Rattle.zir_outside.specs.Loads.{Loads, IsAbsent};
+ghost use Rattle.zir_outside.specs.declared.LoadError.TheVariants.{Memory};
 
+use std::alloc::AllocError;
 use thiserror::Error;
 
 /// A read or a write failed.
@@ -31,6 +34,17 @@ pub enum LoadError {
     #[error("out of memory")]
     Memory,
 }
+
+impl From<AllocError> for LoadError {
+    ghost from_gives = { λ _ e. e ≡ Memory };
+
+    fn from(_error: AllocError) -> LoadError {
+        LoadError::Memory
+    }
+}
+
+/// The most bytes that a text may have.
+pub const LONGEST_TEXT: usize = 65_536;
 
 /// Bytes that are read from front to back.
 pub trait Source {

@@ -1,10 +1,11 @@
 //! A source, a sink and a shelf in memory, which fail where they are told to.
 
-ghost use Rattle.std.specs.Prelude.{ℕ, ◌≡◌, ◌≤◌, ◌<◌, ◌+◌, ◌-◌, ◌↔◌, ◌⊎◌, ◌++◌, [], List, min, drop, length, take, Some, IfOk, OnOk, OnErr, IsErr, is_err, is_ok, vec_len, vec_capacity, if◌then◌else◌};
+ghost use Rattle.std.specs.Prelude.{ℕ, ◌≢◌, All, None, IsNone, IsErrOf, string_bytes, ◌≡◌, ◌≤◌, ◌<◌, ◌+◌, ◌-◌, ◌↔◌, ◌⊎◌, ◌++◌, [], List, min, drop, length, take, Some, IfOk, OnOk, OnErr, IsTrue, IsErr, is_err, is_ok, vec_len, vec_capacity, if◌then◌else◌};
+ghost use Rattle.std.specs.Option.{option_map};
 ghost use Rattle.std.specs.Result.{result_unwrap_or};
 
 use crate::calls::Calls;
-use crate::{Failed, Gate, Sink, Source};
+use crate::{Failed, Gate, LONGEST_TEXT, LoadError, Shelf, Sink, Source};
 use std::alloc::{AllocError, Global};
 
 /// Gives bytes in pieces, and fails at the calls that are listed.
@@ -48,7 +49,7 @@ impl MemSource {
 }
 
 impl Source for MemSource {
-    ghost use Rattle.zir_outside.specs.Calls.{IsNextListed, MadeOne};
+    ghost use Rattle.zir_outside.specs.Calls.{is_next_listed, MadeOne};
     ghost use Rattle.zir_outside.specs.Causes.{HasCause};
     ghost use Rattle.zir_outside.specs.Memory.{unread, given_of, piece_of, source_calls};
     ghost use Rattle.zir_outside.specs.Reads.{Reads};
@@ -62,7 +63,7 @@ impl Source for MemSource {
         ensures taken { Reads (Some (unread self.old)) (Some (unread self.new)) into.new result }
         ensures cause { HasCause (source_calls self.old).faults (source_calls self.new).faults result }
         // Whether a call fails, and how much it gives.
-        ensures listed { IsErr result ↔ IsNextListed (source_calls self.old) }
+        ensures listed { is_err result ≡ is_next_listed (source_calls self.old) }
         ensures counted { MadeOne (source_calls self.old) (source_calls self.new) (is_err result) }
         ensures amount { IfOk result (λ n. n ≡ min (piece_of self.old) (min (length into.old) (length (unread self.old)))) }
         ensures given { given_of self.new ≡ given_of self.old + result_unwrap_or result 0 }
@@ -117,7 +118,7 @@ impl MemSink {
 }
 
 impl Sink for MemSink {
-    ghost use Rattle.zir_outside.specs.Calls.{IsNextListed, MadeOne};
+    ghost use Rattle.zir_outside.specs.Calls.{is_next_listed, MadeOne};
     ghost use Rattle.zir_outside.specs.Causes.{HasCause};
     ghost use Rattle.zir_outside.specs.Memory.{held, room_of, sink_calls};
     ghost use Rattle.zir_outside.specs.Sinks.{Grew, GrewPart, Tells};
@@ -132,7 +133,7 @@ impl Sink for MemSink {
         ensures untold { Tells (λ h. h ≡ held self.new) → Tells (λ h. h ≡ held self.old) }
         ensures cause { HasCause (sink_calls self.old).faults (sink_calls self.new).faults result }
         // Whether a call fails, and what the sink then holds.
-        ensures fails { IsErr result ↔ (IsNextListed (sink_calls self.old) ⊎ (room_of self.old < length (held self.old) + length piece.now)) }
+        ensures fails { IsErr result ↔ (IsTrue (is_next_listed (sink_calls self.old)) ⊎ (room_of self.old < length (held self.old) + length piece.now)) }
         ensures counted { MadeOne (sink_calls self.old) (sink_calls self.new) (is_err result) }
         ensures held { held self.new ≡ (if is_ok result then held self.old ++ piece.now else held self.old) }
         ensures room { room_of self.new ≡ room_of self.old }
@@ -145,6 +146,84 @@ impl Sink for MemSink {
             return Err(Failed);
         }
         self.bytes.extend_from_slice(piece).unwrap();
+        Ok(())
+    }
+}
+
+/// Holds texts with names, and fails at the calls that are listed.
+#[derive(Debug, Drop)]
+pub struct MemShelf {
+    texts: Vec<(String, Vec<u8>)>,
+    calls: Calls,
+}
+
+impl MemShelf {
+    ghost use Rattle.zir_outside.specs.Calls.{IsFresh};
+    ghost use Rattle.zir_outside.specs.Memory.{texts_of, shelf_calls};
+    ghost use Rattle.zir_outside.specs.Texts.{NamesDiffer, text_in};
+
+    /// Holds these texts under their names. The calls listed in `failing`, counted from 1, fail.
+    pub fn new(texts: Vec<(String, Vec<u8>)>, failing: Vec<u64>) -> MemShelf
+        requires { NamesDiffer texts.items }
+        ensures texts { ⟦<MemShelf as Shelf>⟧.texts result ≡ Some (text_in texts.items) }
+        ensures each { All (λ t. text_in texts.items (string_bytes t.0) ≡ Some t.1.items) texts.items }
+        ensures holds { texts_of result ≡ texts.items }
+        ensures faults { ⟦<MemShelf as Shelf>⟧.faults result ≡ 0 }
+        ensures calls { IsFresh (shelf_calls result) failing.items }
+    {
+        MemShelf {
+            texts,
+            calls: Calls::new(failing),
+        }
+    }
+
+    /// The text with this name.
+    pub fn text(&self, name: &str) -> Option<&[u8]>
+        ensures text { option_map (λ text. text.now) result ≡ text_in (texts_of self.now) name.now }
+        ensures none { IsNone result ↔ All (λ t. string_bytes t.0 ≢ name.now) (texts_of self.now) }
+    {
+        for (known, text) in &self.texts {
+            if known.as_str() == name {
+                return Some(text);
+            }
+        }
+        None
+    }
+}
+
+impl Shelf for MemShelf {
+    ghost use Rattle.zir_outside.specs.Calls.{is_next_listed, MadeOne};
+    ghost use Rattle.zir_outside.specs.Causes.{Rose};
+    ghost use Rattle.zir_outside.specs.Loads.{Loads, IsAbsent};
+    ghost use Rattle.zir_outside.specs.Memory.{texts_of, shelf_calls};
+    ghost use Rattle.zir_outside.specs.Texts.{text_in};
+
+    ghost texts = { λ s. Some (text_in (texts_of s)) };
+    ghost faults = { λ s. s.calls.faults };
+
+    fn load(&mut self, name: &str, into: &mut Vec<u8>) -> Result<(), LoadError>
+        ensures short { OnOk result (length into.new.items ≤ 65536) }
+        ensures loaded { Loads (Some (text_in (texts_of self.old))) name.now into.new.items result }
+        ensures refused { OnErr result (into.new.items ≡ []) }
+        ensures same { Some (text_in (texts_of self.new)) ≡ Some (text_in (texts_of self.old)) }
+        ensures later { (shelf_calls self.old).faults ≤ (shelf_calls self.new).faults }
+        ensures cause { IsErrOf result LoadError.Failed → Rose (shelf_calls self.old).faults (shelf_calls self.new).faults ⊎ IsAbsent (Some (text_in (texts_of self.old))) name.now }
+        // Whether a call fails, and that nothing else is a fault.
+        ensures failed { IsErrOf result LoadError.Failed ↔ (IsTrue (is_next_listed (shelf_calls self.old)) ⊎ (text_in (texts_of self.old) name.now ≡ None)) }
+        ensures counted { MadeOne (shelf_calls self.old) (shelf_calls self.new) (is_next_listed (shelf_calls self.old)) }
+        ensures holds { texts_of self.new ≡ texts_of self.old }
+    {
+        into.clear();
+        if self.calls.next_fails() {
+            return Err(LoadError::Failed);
+        }
+        let Some(text) = self.text(name) else {
+            return Err(LoadError::Failed);
+        };
+        if text.len() > LONGEST_TEXT {
+            return Err(LoadError::TooLong);
+        }
+        into.extend_from_slice(text)?;
         Ok(())
     }
 }
