@@ -1,11 +1,8 @@
 -- The calls of an object in memory, some of which are to fail.
-use Rattle.std.specs.Prelude.{ℕ, Bool, ◌≡◌, ◌==◌, ◌+◌, ◌-◌, ◌^◌, min, if◌then◌else◌, List}
+use Rattle.std.specs.Prelude.{ℕ, Bool, ◌≡◌, ◌==◌, List}
 use Rattle.std.specs.List.{list_any}
 use Rattle.zir_outside.specs.declared.calls.Calls.{Calls}
-
--- one more, up to the largest number of 64 bits
-abbrev pub one_more : ℕ → ℕ
-one_more n = min (n + 1) (2 ^ 64 - 1)
+use Rattle.zir_outside.specs.Causes.{one_more, CountsFault}
 
 -- the next call is one of those listed, which are counted from 1
 abbrev pub is_next_listed : Calls → Bool
@@ -19,4 +16,4 @@ IsFresh calls failing = (calls.listed.items ≡ failing) × (calls.made ≡ 0) �
 pub record MadeOne (old new : Calls) (fault : Bool) : Type 0 where
   pub listed : new.listed ≡ old.listed
   pub made : new.made ≡ one_more old.made
-  pub faults : new.faults ≡ (if fault then one_more old.faults else old.faults)
+  pub faults : CountsFault old.faults new.faults fault

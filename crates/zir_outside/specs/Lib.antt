@@ -5,3 +5,4 @@ pub mod Memory
 pub mod Reads
 pub mod Sinks
 pub mod Texts
+pub mod Real

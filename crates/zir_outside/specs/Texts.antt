@@ -1,5 +1,5 @@
 -- Texts with names.
-use Rattle.std.specs.Prelude.{ℕ, Bool, ◌≢◌, List, find, AllPairs, Option, String, Vec, string_bytes}
+use Rattle.std.specs.Prelude.{ℕ, ◌≢◌, List, find, AllPairs, Option, String, Vec, string_bytes}
 use Rattle.std.specs.Option.{option_map}
 use Rattle.std.specs.Str.{bytes_eq}
 use Rattle.std.specs.declared.alloc.Global.{Global}

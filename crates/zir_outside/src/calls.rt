@@ -1,7 +1,8 @@
 //! Counts the calls of an object in memory, and lets those fail that are listed.
 
 ghost use Rattle.std.specs.Prelude.{◌≡◌, ◌≤◌, true};
-ghost use Rattle.zir_outside.specs.Calls.{IsFresh, is_next_listed, MadeOne, one_more};
+ghost use Rattle.zir_outside.specs.Calls.{IsFresh, is_next_listed, MadeOne};
+ghost use Rattle.zir_outside.specs.Causes.{one_more};
 
 /// The calls made so far, those that are to fail, and how many failed.
 #[derive(Debug, Drop)]

@@ -95,3 +95,6 @@ pub trait Gate {
     /// Stages and rounds are counted from 1.
     fn pass(&self, stage: usize, round: u64);
 }
+
+#[cfg(test)]
+mod tests;

@@ -199,6 +199,7 @@ impl Shelf for MemShelf {
     ghost use Rattle.zir_outside.specs.Texts.{text_in};
 
     ghost texts = { λ s. Some (text_in (texts_of s)) };
+
     ghost faults = { λ s. s.calls.faults };
 
     fn load(&mut self, name: &str, into: &mut Vec<u8>) -> Result<(), LoadError>

@@ -1,4 +1,4 @@
-use Rattle.std.proofs.Common.{arith, rules, ◌≡◌, ◌<◌, ℕ, Bool, true, Some, List, length, string_bytes, ap, refl}
+use Rattle.std.proofs.Common.{arith, rules, ◌≡◌, ◌<◌, Bool, true, Some, List, length, string_bytes, ap, refl}
 use Rattle.std.specs.Prelude.{find}
 use Rattle.std.specs.Str.{bytes_eq}
 use Rattle.zir_outside.specs.Texts.{Named}
@@ -12,7 +12,7 @@ returns-then-eq-clause-text c =
     let passes : named c.loop-known-item.result ≡ true = search rules in
     let within : c.loop-known.known-index < length texts = search rules in
     let found : find named texts ≡ Some c.loop-known-item.result =
-        find-first named texts c.loop-known.known-index c.loop-known-item.result c.loop-known-item.result within (search rules) passes (λ j below. c.loop-known.invariant j c.loop-known-item.result below) in
+    find-first named texts c.loop-known.known-index c.loop-known-item.result c.loop-known-item.result within (search rules) passes (λ j below. c.loop-known.invariant j c.loop-known-item.result below) in
     rw found (ap Some c.deref.ensures.value)
 
 pub returns-clause-text : goal.returns-clause-text
