@@ -22,7 +22,8 @@ use Rattle.zir_machine.specs.declared.node.Part.{Part}
 use Rattle.zir_machine.specs.declared.node.Link.{Link}
 use Rattle.zir_machine.specs.declared.progress.Span.{Span}
 use Rattle.zir_machine.specs.declared.node.Loop.{Loop}
-use Rattle.zir_machine.specs.Understood.{Meant, Held, Looped, Linked, members_of, row_in, row_sound, again, rest_of_row, row_comp, loop_does, loop_comp, link_starts, link_does, link_sound, link_comp}
+use Rattle.zir_machine.specs.Understood.{Meant, Held, Looped, Linked, members_of, row_in, row_sound, row_done, again, rest_of_row, row_comp, loop_does, loop_comp, link_starts, link_does, link_sound, link_comp}
+use Rattle.zir_machine.specs.Standing.{ended_value}
 use Rattle.zir_machine.specs.Nodes.{row_of, loop_of, link_of, meant, held, looped, linked, comp_of, proc_in, is_sound}
 
 pub meant-Block : (v : Vec Part Global) (span : Span) → meant (Block v span) ≡ row_of (map held v.items) span
@@ -176,3 +177,27 @@ loop_same m x a b b' e z y h =
 pub pipe_same : (m x : Node) (a b b' : Box Link Global) → m ≡ Pipe b → a ≡ b → x ≡ Pipe b' → link_comp (linked b'.value) ≡ link_comp (linked a.value) → comp_of x ≡ comp_of m
 pipe_same m x a b b' e z y h =
     ap comp_of y ∙ ap (λ r. r.what) (meant-Pipe b') ∙ h ∙ ap (λ b. link_comp (linked b.value)) z ∙ sym (ap (λ r. r.what) (meant-Pipe b)) ∙ sym (ap comp_of e)
+
+done_get : (ps : List Part) (k : ℕ) (d : Part) (f : Focus) (s : State) → k < length ps → row_done (map held ps) k f s → (held (get_or ps k d)).meant.does f s ≡ Ends (Value (ended_value f)) s
+done_get [] k d f s h e = absurd e
+done_get (p ∷ ps) zero d f s h e = e
+done_get (p ∷ ps) (suc k) d f s h e = done_get ps k d f s (omega arith) e
+
+pub done_put : (ps : List Part) (k : ℕ) (q : Part) (f : Focus) (s : State) → k < length ps → (held q).meant.does f s ≡ Ends (Value (ended_value f)) s → row_done (map held (slice_set ps k q)) k f s
+done_put [] k q f s h e = absurd (omega arith)
+done_put (p ∷ ps) zero q f s h e = e
+done_put (p ∷ ps) (suc k) q f s h e = done_put ps k q f s (omega arith) e
+
+-- what follows the part that has ended
+pub row_next : (ps : List Part) (k base : ℕ) (d p : Part) (name : Option Ident) (f : Focus) (v : Val) (s s2 : State) (r : Proc) → k < length ps → p ≡ get_or ps k d → name ≡ (held p).bound → v ≡ ended_value f →
+    row_done (map held ps) k f s → s2 ≡ bind name v s → list_proc (members_of (map held (drop (k + 1) ps))) base v s2 ≡ r → row_in (map held ps) k base f s ≡ r
+row_next ps k base d p name f v s s2 r h e b w done g z =
+    let one : suc k ≡ k + 1 = omega arith in
+    row_get ps k base d f s h
+    ∙ ap (λ q. then_proc q (after_part ps k base (held (get_or ps k d)).bound)) (done_get ps k d f s h done)
+    ∙ ap (λ v. after_part ps k base (held (get_or ps k d)).bound v s) (sym w)
+    ∙ ap (λ p. after_part ps k base (held p).bound v s) (sym e)
+    ∙ ap (λ b. after_part ps k base b v s) (sym b)
+    ∙ ap (λ s. list_proc (members_of (map held (drop (suc k) ps))) base v s) (sym g)
+    ∙ ap (λ n. list_proc (members_of (map held (drop n ps))) base v s2) one
+    ∙ z

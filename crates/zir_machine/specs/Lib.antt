@@ -6,3 +6,4 @@ pub mod Lateness
 pub mod Understood
 pub mod Understanding
 pub mod Nodes
+pub mod Heights

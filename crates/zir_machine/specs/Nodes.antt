@@ -12,19 +12,19 @@ use Rattle.zir_machine.specs.declared.node.Link.{Link}
 use Rattle.zir_machine.specs.declared.progress.Span.{Span}
 use Rattle.zir_machine.specs.declared.node.Loop.{Loop}
 use Rattle.zir_machine.specs.Understood.{leaf, Meant, Held, Looped, Linked, row_in, row_sound, row_comp, loop_does, loop_comp, link_does, link_sound, link_comp}
-use Rattle.zir_machine.specs.Understanding.{leaf_late, row_spent, row_spent_sound, row_giving, row_late, loop_spent, loop_giving, loop_late, link_giving, link_late}
+use Rattle.zir_machine.specs.Understanding.{leaf_late, row_spent, row_spent_sound, row_given_sound, row_giving, row_late, loop_spent, loop_giving, loop_late, link_giving, link_late}
 
 abbrev pub leaf_of : Comp → Meant
-leaf_of c = record { what = c; does = leaf c; sound = λ f s. true; spent = λ s. refl; spent_sound = λ s. refl; giving = λ v s. refl; late = leaf_late c }
+leaf_of c = record { what = c; does = leaf c; sound = λ f s. true; spent = λ s. refl; spent_sound = λ s. refl; given_sound = λ v s. refl; giving = λ v s. refl; late = leaf_late c }
 
 abbrev pub row_of : List Held → Span → Meant
-row_of hs span = record { what = row_comp hs span.place; does = row_in hs span.at span.base; sound = row_sound hs span.at; spent = row_spent hs span.at span.base; spent_sound = row_spent_sound hs span.at; giving = row_giving hs span.at span.base; late = row_late hs span.at span.base }
+row_of hs span = record { what = row_comp hs span.place; does = row_in hs span.at span.base; sound = row_sound hs span.at; spent = row_spent hs span.at span.base; spent_sound = row_spent_sound hs span.at; given_sound = row_given_sound hs span.at; giving = row_giving hs span.at span.base; late = row_late hs span.at span.base }
 
 abbrev pub loop_of : Looped → Meant
-loop_of l = record { what = loop_comp l; does = loop_does l; sound = l.body.sound; spent = loop_spent l; spent_sound = l.body.spent_sound; giving = loop_giving l; late = loop_late l }
+loop_of l = record { what = loop_comp l; does = loop_does l; sound = l.body.sound; spent = loop_spent l; spent_sound = l.body.spent_sound; given_sound = l.body.given_sound; giving = loop_giving l; late = loop_late l }
 
 abbrev pub link_of : Linked → Meant
-link_of l = record { what = link_comp l; does = link_does l; sound = link_sound l; spent = λ s. refl; spent_sound = λ s. refl; giving = link_giving l; late = link_late l }
+link_of l = record { what = link_comp l; does = link_does l; sound = link_sound l; spent = λ s. refl; spent_sound = λ s. refl; given_sound = λ v s. refl; giving = link_giving l; late = link_late l }
 
 -- one level, with each node inside already understood
 abbrev pub one_level : Node-F Meant Linked Looped Held → Meant

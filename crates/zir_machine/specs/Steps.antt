@@ -30,3 +30,9 @@ pub record Paced (a : Answer) (fuel fuel' ticks ticks' : ℕ) : Type 0 where
   pub used : fuel' < fuel → ticks < ticks'
   pub yields : a ≡ Yield → ticks < ticks'
   pub pauses : a ≡ Skip → fuel' ≡ 0
+
+-- fuel never rises and ticks never fall, and fuel is used only with ticks
+pub record Uses (fuel fuel' ticks ticks' : ℕ) : Type 0 where
+  pub fuel_falls : fuel' ≤ fuel
+  pub ticks_rise : ticks ≤ ticks'
+  pub used : fuel' < fuel → ticks < ticks'

@@ -1,7 +1,7 @@
 -- What is understood of a node keeps the laws of what is inside it.
-use Rattle.std.specs.Prelude.{ℕ, zero, suc, ◌≡◌, refl, ◌+◌, ◌≤◌, List, [], ◌∷◌, Bool, true, false, ◌&&◌, nat_le, if◌then◌else◌, length}
+use Rattle.std.specs.Prelude.{ℕ, zero, suc, ◌≡◌, refl, ◌+◌, ◌≤◌, List, [], ◌∷◌, Bool, true, false, ◌&&◌, nat_le, if◌then◌else◌, length, Option, Some, None, is_none}
 use Rattle.std.proofs.Common.{ap, arith, sym, subst}
-use Rattle.std.proofs.lemmas.Bool.{leb-true}
+use Rattle.std.proofs.lemmas.Bool.{leb-true, le-leb}
 use Rattle.zir_tree.specs.declared.value.Val.{Val}
 use Rattle.zir_tree.specs.declared.ends.End.TheVariants.{Value}
 use Rattle.zir_tree.specs.declared.tree.Comp.{Comp}
@@ -12,7 +12,7 @@ use Rattle.zir_laws.specs.Process.{Proc, Gives, Ends, Needs, spent_proc, NextPro
 use Rattle.zir_laws.proofs.Counts.{counts-proc, counts-turns}
 use Rattle.zir_machine.specs.declared.progress.Focus.{Focus}
 use Rattle.zir_machine.specs.declared.progress.Focus.TheVariants.{Begin, Ended, Giving, Given, Spent}
-use Rattle.zir_machine.specs.Standing.{base_point}
+use Rattle.zir_machine.specs.Standing.{base_point, given_value}
 use Rattle.zir_machine.specs.Late.{Late, needs}
 use Rattle.zir_machine.specs.Understood.{ended_in, leaf, Meant, Held, Linked, members_of, again, rest_of_row, row_in, row_sound, Looped, loop_does, left_state, right_state, left_does, right_does, link_goes, link_does, floor_of, goes_sound, link_sound}
 use Rattle.zir_machine.specs.Lateness.{late-counts, late-earlier, late-then, late-piped, late-pull}
@@ -60,6 +60,11 @@ row_spent_sound [] k s = refl
 row_spent_sound (h ∷ hs) zero s = h.meant.spent_sound s
 row_spent_sound (h ∷ hs) (suc k) s = row_spent_sound hs k s
 
+pub row_given_sound : (hs : List Held) (k : ℕ) (v : Val) (s : State) → row_sound hs k (Giving v) s ≡ row_sound hs k Given s
+row_given_sound [] k v s = refl
+row_given_sound (h ∷ hs) zero v s = h.meant.given_sound v s
+row_given_sound (h ∷ hs) (suc k) v s = row_given_sound hs k v s
+
 pub row_giving : (hs : List Held) (k base : ℕ) (v : Val) (s : State) → row_in hs k base (Giving v) s ≡ Gives (record { value = v; at = point s }) (row_in hs k base Given s)
 row_giving [] k base v s = refl
 row_giving (h ∷ hs) zero base v s = ap (λ p. then_proc p (rest_of_row hs base h.bound)) (h.meant.giving v s)
@@ -84,23 +89,35 @@ loop_late l f s h = late-then (l.body.does f s) _ s.ticks (l.body.late f s h)
 pub record Sound (l : Linked) (s : State) : Type 0 where
   pub right : l.right.sound l.right_progress.focus (right_state l s) ≡ true
   pub left : l.left.sound l.left_progress.focus (left_state l) ≡ true
+  pub ready : given_value l.right_progress.focus ≡ None
   pub base : l.base.ticks ≤ l.left_progress.ticks
   pub whole : s.ticks ≤ floor_of l s + l.right_progress.ticks
+
+nothing : (o : Option Val) → is_none o ≡ true → o ≡ None
+nothing None h = refl
+nothing (Some v) h = absurd (cc)
 
 pub sound-parts : (l : Linked) (s : State) → goes_sound l s ≡ true → Sound l s
 sound-parts l s h =
     let a : Bool = l.right.sound l.right_progress.focus (right_state l s) in
     let b : Bool = l.left.sound l.left_progress.focus (left_state l) in
+    let r : Bool = is_none (given_value l.right_progress.focus) in
     let c : Bool = nat_le l.base.ticks l.left_progress.ticks in
     let d : Bool = nat_le s.ticks (floor_of l s + l.right_progress.ticks) in
-    let abc : a && b && c ≡ true = both-left (a && b && c) d h in
-    let ab : a && b ≡ true = both-left (a && b) c abc in
+    let abrc : a && b && r && c ≡ true = both-left (a && b && r && c) d h in
+    let abr : a && b && r ≡ true = both-left (a && b && r) c abrc in
+    let ab : a && b ≡ true = both-left (a && b) r abr in
     record {
       right = both-left a b ab;
       left = both-right a b ab;
-      base = leb-true _ _ (both-right (a && b) c abc);
-      whole = leb-true _ _ (both-right (a && b && c) d h);
+      ready = nothing (given_value l.right_progress.focus) (both-right (a && b) r abr);
+      base = leb-true _ _ (both-right (a && b && r) c abrc);
+      whole = leb-true _ _ (both-right (a && b && r && c) d h);
     }
+
+pub sound-whole : (l : Linked) (s : State) → Sound l s → goes_sound l s ≡ true
+sound-whole l s h =
+    both _ _ (both _ _ (both _ _ (both _ _ h.right h.left) (rw h.ready refl)) (le-leb _ _ h.base)) (le-leb _ _ h.whole)
 
 goes-late-of : (l : Linked) (s : State) (r : Proc) → Late l.right_progress.ticks r → Late l.left_progress.ticks (left_does l) → l.base.ticks ≤ l.left_progress.ticks → s.ticks ≤ (if needs r then l.left_progress.ticks else l.base.ticks) + l.right_progress.ticks → Late s.ticks (piped [] s r (base_point l.base) (left_does l))
 goes-late-of l s (Gives o r) h g b w = late-piped [] s (Gives o r) (base_point l.base) (left_does l) l.right_progress.ticks l.left_progress.ticks s.ticks h g w (omega arith)

@@ -1,5 +1,5 @@
 -- What a node means where the nodes inside it are understood already.
-use Rattle.std.specs.Prelude.{ℕ, zero, suc, ◌≡◌, refl, ◌+◌, List, [], ◌∷◌, Option, Bool, true, false, ◌&&◌, nat_le, if◌then◌else◌, map}
+use Rattle.std.specs.Prelude.{ℕ, zero, suc, ◌≡◌, refl, ◌+◌, List, [], ◌∷◌, Option, Bool, true, false, ◌&&◌, nat_le, if◌then◌else◌, map, is_none}
 use Rattle.zir_tree.specs.declared.value.Val.{Val}
 use Rattle.zir_tree.specs.declared.value.Val.TheVariants.{Unit as UnitVal}
 use Rattle.zir_tree.specs.declared.value.Slot.{Slot}
@@ -16,7 +16,7 @@ use Rattle.zir_machine.specs.declared.progress.Focus.{Focus}
 use Rattle.zir_machine.specs.declared.progress.Focus.TheVariants.{Begin, Ended, Giving, Given, Spent}
 use Rattle.zir_machine.specs.declared.progress.Progress.{Progress}
 use Rattle.zir_machine.specs.declared.progress.Base.{Base}
-use Rattle.zir_machine.specs.Standing.{state_of, base_point}
+use Rattle.zir_machine.specs.Standing.{state_of, base_point, ended_value, given_value}
 use Rattle.zir_machine.specs.Late.{Late, needs}
 
 -- a component that has begun: it ended, waits to give or was let give, or is out of ticks
@@ -42,6 +42,7 @@ pub record Meant : Type 0 where
   pub sound : Focus → State → Bool
   pub spent : (s : State) → does Spent s ≡ spent_proc
   pub spent_sound : (s : State) → sound Spent s ≡ true
+  pub given_sound : (v : Val) (s : State) → sound (Giving v) s ≡ sound Given s
   pub giving : (v : Val) (s : State) → does (Giving v) s ≡ Gives (record { value = v; at = point s }) (does Given s)
   pub late : (f : Focus) (s : State) → sound f s ≡ true → Late s.ticks (does f s)
 
@@ -88,6 +89,12 @@ row_sound [] at f s = true
 row_sound (h ∷ hs) zero f s = h.meant.sound f s
 row_sound (h ∷ hs) (suc k) f s = row_sound hs k f s
 
+-- the part at this place has ended with the value of the focus
+abbrev pub row_done : List Held → ℕ → Focus → State → Type 0
+row_done [] at f s = ⊥
+row_done (h ∷ hs) zero f s = h.meant.does f s ≡ Ends (Value (ended_value f)) s
+row_done (h ∷ hs) (suc k) f s = row_done hs k f s
+
 abbrev pub row_comp : List Held → Place → Comp
 row_comp hs p = BlockComp (members_of hs) p
 
@@ -129,10 +136,11 @@ link_does l Spent s = spent_proc
 abbrev pub floor_of : Linked → State → ℕ
 floor_of l s = if needs (right_does l s) then l.left_progress.ticks else l.base.ticks
 
--- the sides are sound, the base is no later than the left side, and the whole no later than its next event
+-- the sides are sound, no output of the right side waits, the base is no later than the left side, and the whole no later than its next event
 abbrev pub goes_sound : Linked → State → Bool
 goes_sound l s =
     l.right.sound l.right_progress.focus (right_state l s) && l.left.sound l.left_progress.focus (left_state l)
+    && is_none (given_value l.right_progress.focus)
     && nat_le l.base.ticks l.left_progress.ticks && nat_le s.ticks (floor_of l s + l.right_progress.ticks)
 
 abbrev pub link_sound : Linked → Focus → State → Bool

@@ -1,13 +1,14 @@
 // A component as a tree of nodes, each with what it remembers between its events.
 
-ghost use Rattle.std.specs.Prelude.{◌≡◌, ◌+◌, ◌≤◌, ◌<◌, ◌^◌, ℕ, IfOk, OnOk, true, Some, None, length, map, drop};
+ghost use Rattle.std.specs.Prelude.{◌≡◌, ◌≢◌, ◌+◌, ◌≤◌, ◌<◌, ◌^◌, ℕ, IfOk, OnOk, true, Some, None, length, map, drop};
 ghost use Rattle.zir_tree.specs.declared.place.Place.{Place};
+ghost use Rattle.zir_tree.specs.declared.tree.Comp.{Take as TakeComp, Emit as EmitComp, Return as ReturnComp};
 ghost use Rattle.zir_meaning.specs.Trace.{State};
 ghost use Rattle.zir_meaning.specs.Store.{bound};
 ghost use Rattle.zir_laws.specs.Process.{Proc, proc, list_proc, turns_proc, then_proc, piped};
 ghost use Rattle.zir_machine.specs.Standing.{state_of, base_point, IsReady, ended_value, Turned};
 ghost use Rattle.zir_machine.specs.Steps.{Stepped, Paced};
-ghost use Rattle.zir_machine.specs.Understood.{leaf, ended_in, again, members_of, row_in, row_sound, loop_does, loop_comp, link_starts, link_goes, link_does, link_comp, link_sound, goes_sound};
+ghost use Rattle.zir_machine.specs.Understood.{leaf, ended_in, again, members_of, row_in, row_sound, row_done, loop_does, loop_comp, link_starts, link_goes, link_does, link_comp, link_sound, goes_sound};
 ghost use Rattle.zir_machine.specs.Nodes.{comp_of, proc_in, is_sound, held, looped, linked};
 
 use crate::eval::eval;
@@ -65,6 +66,7 @@ fn answer(progress: &mut Progress, store: &Vec<Slot>, offer: &mut Option<Val>, f
     requires { IsReady progress.old.focus }
     ensures step { Stepped result offer.old offer.new (ended_in progress.old.focus (state_of progress.old store.now.items)) (ended_in progress.new.focus (state_of progress.new store.now.items)) progress.new.focus (state_of progress.new store.now.items) }
     ensures paced { Paced result fuel.old fuel.new progress.old.ticks progress.new.ticks }
+    ensures begun { progress.new.focus ≢ Focus.Begin }
 {
     match progress.focus {
         Focus::Given => {
@@ -253,5 +255,231 @@ impl Link {
             .enter(&mut self.left_progress, &mut self.left_store)?;
         self.right.enter(&mut self.right_progress, store)?;
         Ok(())
+    }
+}
+
+/// A step of `take`.
+fn take(progress: &mut Progress, store: &Vec<Slot>, offer: &mut Option<Val>, fuel: &mut u32) -> Answer
+    requires { IsReady progress.old.focus }
+    ensures step { (place : Place) → Stepped result offer.old offer.new (leaf (TakeComp place) progress.old.focus (state_of progress.old store.now.items)) (leaf (TakeComp place) progress.new.focus (state_of progress.new store.now.items)) progress.new.focus (state_of progress.new store.now.items) }
+    ensures paced { Paced result fuel.old fuel.new progress.old.ticks progress.new.ticks }
+{
+    match progress.focus {
+        Focus::Begin => match offer.take() {
+            None => Answer::Need,
+            Some(element) => {
+                if progress.take(element) {
+                    Answer::Done
+                } else {
+                    Answer::Stopped
+                }
+            }
+        },
+        _ => answer(progress, store, offer, fuel),
+    }
+}
+
+/// A step of `emit`.
+fn emit(e: &Expr, progress: &mut Progress, store: &Vec<Slot>, offer: &mut Option<Val>, fuel: &mut u32) -> Answer
+    requires { IsReady progress.old.focus }
+    ensures step { (place : Place) → Stepped result offer.old offer.new (leaf (EmitComp e.now place) progress.old.focus (state_of progress.old store.now.items)) (leaf (EmitComp e.now place) progress.new.focus (state_of progress.new store.now.items)) progress.new.focus (state_of progress.new store.now.items) }
+    ensures paced { Paced result fuel.old fuel.new progress.old.ticks progress.new.ticks }
+{
+    match progress.focus {
+        Focus::Begin => {
+            let value = eval(e, store.as_slice());
+            if progress.tick() {
+                progress.focus = Focus::Giving(value);
+                Answer::Yield
+            } else {
+                Answer::Stopped
+            }
+        }
+        _ => answer(progress, store, offer, fuel),
+    }
+}
+
+/// A step of `return`.
+fn finish(e: &Expr, progress: &mut Progress, store: &Vec<Slot>, offer: &mut Option<Val>, fuel: &mut u32) -> Answer
+    requires { IsReady progress.old.focus }
+    ensures step { (place : Place) → Stepped result offer.old offer.new (leaf (ReturnComp e.now place) progress.old.focus (state_of progress.old store.now.items)) (leaf (ReturnComp e.now place) progress.new.focus (state_of progress.new store.now.items)) progress.new.focus (state_of progress.new store.now.items) }
+    ensures paced { Paced result fuel.old fuel.new progress.old.ticks progress.new.ticks }
+{
+    match progress.focus {
+        Focus::Begin => {
+            let value = eval(e, store.as_slice());
+            if progress.tick() {
+                progress.focus = Focus::Ended(value);
+                Answer::Done
+            } else {
+                Answer::Stopped
+            }
+        }
+        _ => answer(progress, store, offer, fuel),
+    }
+}
+
+impl Node {
+    /// Works until an output, a need, the end, or until no fuel is left. An element that is offered is taken where the
+    /// component needs one.
+    #[cycle(stepping)]
+    pub fn step(
+        &mut self,
+        progress: &mut Progress,
+        store: &mut Vec<Slot>,
+        offer: &mut Option<Val>,
+        fuel: &mut u32,
+    ) -> Result<Answer, AllocError>
+        requires ready { IsReady progress.old.focus }
+        requires sound { is_sound self.old progress.old.focus (state_of progress.old store.old.items) ≡ true }
+        ensures step { IfOk result (λ a. Stepped a offer.old offer.new (proc_in self.old progress.old.focus (state_of progress.old store.old.items)) (proc_in self.new progress.new.focus (state_of progress.new store.new.items)) progress.new.focus (state_of progress.new store.new.items)) }
+        ensures sound { OnOk result (is_sound self.new progress.new.focus (state_of progress.new store.new.items) ≡ true) }
+        ensures paced { IfOk result (λ a. Paced a fuel.old fuel.new progress.old.ticks progress.new.ticks) }
+        ensures kept { comp_of self.new ≡ comp_of self.old }
+    {
+        match self {
+            Node::Take(_) => Ok(take(progress, store, offer, fuel)),
+            Node::Emit(e, _) => Ok(emit(e, progress, store, offer, fuel)),
+            Node::Return(e, _) => Ok(finish(e, progress, store, offer, fuel)),
+            Node::Block(parts, span) => {
+                let answer = step_row(parts, span, progress, store, offer, fuel)?;
+                Ok(answer)
+            }
+            Node::Repeat(body) => {
+                let answer = step_loop(body, progress, store, offer, fuel)?;
+                Ok(answer)
+            }
+            Node::Pipe(_) => Ok(Answer::Stopped),
+        }
+    }
+}
+
+impl Part {
+    /// A step of the part.
+    #[cycle(stepping)]
+    fn step(
+        &mut self,
+        progress: &mut Progress,
+        store: &mut Vec<Slot>,
+        offer: &mut Option<Val>,
+        fuel: &mut u32,
+    ) -> Result<Answer, AllocError>
+        requires ready { IsReady progress.old.focus }
+        requires sound { (held self.old).meant.sound progress.old.focus (state_of progress.old store.old.items) ≡ true }
+        ensures step { IfOk result (λ a. Stepped a offer.old offer.new ((held self.old).meant.does progress.old.focus (state_of progress.old store.old.items)) ((held self.new).meant.does progress.new.focus (state_of progress.new store.new.items)) progress.new.focus (state_of progress.new store.new.items)) }
+        ensures sound { OnOk result ((held self.new).meant.sound progress.new.focus (state_of progress.new store.new.items) ≡ true) }
+        ensures paced { IfOk result (λ a. Paced a fuel.old fuel.new progress.old.ticks progress.new.ticks) }
+        ensures kept { (held self.new).meant.what ≡ (held self.old).meant.what }
+        ensures bound { (held self.new).bound ≡ (held self.old).bound }
+    {
+        self.node.step(progress, store, offer, fuel)
+    }
+}
+
+/// The part that ran has ended: its value is bound, and the next part begins.
+fn next_part(
+    parts: &mut Vec<Part>,
+    span: &mut Span,
+    progress: &mut Progress,
+    store: &mut Vec<Slot>,
+) -> Result<(), AllocError>
+    requires within { span.old.at < length parts.old.items }
+    requires done { row_done (map held parts.old.items) span.old.at progress.old.focus (state_of progress.old store.old.items) }
+    ensures goes { OnOk result (row_in (map held parts.old.items) span.old.at span.old.base progress.old.focus (state_of progress.old store.old.items) ≡ row_in (map held parts.new.items) span.new.at span.new.base progress.new.focus (state_of progress.new store.new.items)) }
+    ensures sound { OnOk result (row_sound (map held parts.new.items) span.new.at progress.new.focus (state_of progress.new store.new.items) ≡ true) }
+    ensures ready { OnOk result (IsReady progress.new.focus) }
+    ensures rises { OnOk result (progress.old.ticks ≤ progress.new.ticks) }
+    ensures kept { members_of (map held parts.new.items) ≡ members_of (map held parts.old.items) }
+    ensures next { OnOk result (span.new.at ≡ span.old.at + 1) }
+    ensures base { span.new.base ≡ span.old.base }
+    ensures place { span.new.place ≡ span.old.place }
+{
+    let value = progress.value();
+    bind(&parts[span.at].bound, value, store)?;
+    span.at += 1;
+    enter_part(parts, span.at, span.base, value, progress, store)?;
+    Ok(())
+}
+
+/// A step of a block: the parts run one after the other.
+#[cycle(stepping)]
+fn step_row(
+    parts: &mut Vec<Part>,
+    span: &mut Span,
+    progress: &mut Progress,
+    store: &mut Vec<Slot>,
+    offer: &mut Option<Val>,
+    fuel: &mut u32,
+) -> Result<Answer, AllocError>
+    requires ready { IsReady progress.old.focus }
+    requires sound { row_sound (map held parts.old.items) span.old.at progress.old.focus (state_of progress.old store.old.items) ≡ true }
+    ensures step { IfOk result (λ a. Stepped a offer.old offer.new (row_in (map held parts.old.items) span.old.at span.old.base progress.old.focus (state_of progress.old store.old.items)) (row_in (map held parts.new.items) span.new.at span.new.base progress.new.focus (state_of progress.new store.new.items)) progress.new.focus (state_of progress.new store.new.items)) }
+    ensures sound { OnOk result (row_sound (map held parts.new.items) span.new.at progress.new.focus (state_of progress.new store.new.items) ≡ true) }
+    ensures paced { IfOk result (λ a. Paced a fuel.old fuel.new progress.old.ticks progress.new.ticks) }
+    ensures kept { members_of (map held parts.new.items) ≡ members_of (map held parts.old.items) }
+    ensures base { span.new.base ≡ span.old.base }
+    ensures place { span.new.place ≡ span.old.place }
+{
+    'parts: while span.at < parts.len() {
+        let here = span.at;
+        let part = &mut parts[here];
+        match part.step(progress, store, offer, fuel)? {
+            Answer::Done => {}
+            answer => return Ok(answer),
+        }
+        next_part(parts, span, progress, store)?;
+    }
+    Ok(answer(progress, store, offer, fuel))
+}
+
+/// A step of a loop.
+#[cycle(stepping)]
+fn step_loop(
+    body: &mut Box<Loop>,
+    progress: &mut Progress,
+    store: &mut Vec<Slot>,
+    offer: &mut Option<Val>,
+    fuel: &mut u32,
+) -> Result<Answer, AllocError>
+    requires ready { IsReady progress.old.focus }
+    requires sound { (looped body.old.value).body.sound progress.old.focus (state_of progress.old store.old.items) ≡ true }
+    ensures step { IfOk result (λ a. Stepped a offer.old offer.new (loop_does (looped body.old.value) progress.old.focus (state_of progress.old store.old.items)) (loop_does (looped body.new.value) progress.new.focus (state_of progress.new store.new.items)) progress.new.focus (state_of progress.new store.new.items)) }
+    ensures sound { OnOk result ((looped body.new.value).body.sound progress.new.focus (state_of progress.new store.new.items) ≡ true) }
+    ensures paced { IfOk result (λ a. Paced a fuel.old fuel.new progress.old.ticks progress.new.ticks) }
+    ensures kept { loop_comp (looped body.new.value) ≡ loop_comp (looped body.old.value) }
+{
+    body.step(progress, store, offer, fuel)
+}
+
+impl Loop {
+    /// A step: the body runs again and again, each turn for a tick and one fuel.
+    #[cycle(stepping)]
+    fn step(
+        &mut self,
+        progress: &mut Progress,
+        store: &mut Vec<Slot>,
+        offer: &mut Option<Val>,
+        fuel: &mut u32,
+    ) -> Result<Answer, AllocError>
+        requires ready { IsReady progress.old.focus }
+        requires sound { (looped self.old).body.sound progress.old.focus (state_of progress.old store.old.items) ≡ true }
+        ensures step { IfOk result (λ a. Stepped a offer.old offer.new (loop_does (looped self.old) progress.old.focus (state_of progress.old store.old.items)) (loop_does (looped self.new) progress.new.focus (state_of progress.new store.new.items)) progress.new.focus (state_of progress.new store.new.items)) }
+        ensures sound { OnOk result ((looped self.new).body.sound progress.new.focus (state_of progress.new store.new.items) ≡ true) }
+        ensures paced { IfOk result (λ a. Paced a fuel.old fuel.new progress.old.ticks progress.new.ticks) }
+        ensures kept { loop_comp (looped self.new) ≡ loop_comp (looped self.old) }
+    {
+        'turns: loop {
+            match self.body.step(progress, store, offer, fuel)? {
+                Answer::Done => {}
+                answer => return Ok(answer),
+            }
+            if *fuel == 0 {
+                return Ok(Answer::Skip);
+            }
+            if !self.turn(progress, store)? {
+                return Ok(Answer::Stopped);
+            }
+            *fuel -= 1;
+        }
     }
 }
