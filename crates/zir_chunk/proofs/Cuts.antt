@@ -1,14 +1,13 @@
 -- Flat cells cut into elements of one size.
-use Rattle.std.proofs.Common.{ℕ, zero, suc, inl, inr, ◌+◌, ◌-◌, ◌*◌, ◌<◌, ◌≤◌, ◌≡◌, List, [], ◌∷◌, ◌++◌, length, map, take, drop, get_or, min, Some, refl, ap, sym, ◌∙◌, subst, arith, add-one, length-append, length-drop, mul-zero, rules}
+use Rattle.std.proofs.Common.{ℕ, zero, suc, inl, inr, ◌+◌, ◌-◌, ◌*◌, ◌<◌, ◌≤◌, ◌≡◌, List, [], ◌∷◌, ◌++◌, length, map, take, drop, get_or, Some, refl, ap, sym, ◌∙◌, subst, arith, length-append, length-drop}
 use Rattle.std.specs.Prelude.{ℤ, All, AllPairs, slice_get}
-use Rattle.std.proofs.lemmas.Grind.{common_steps}
 use Rattle.std.proofs.lemmas.List.{take-append-le, drop-append-le, length-take-le, drop-drop, get_or_at, get_or_default}
 use Rattle.std.proofs.lemmas.Bool.{cases_lt}
 use Rattle.std.proofs.Math.Nat.{mul-le-mul_left}
 use Rattle.std.proofs.Math.Seq.{take-length}
-use Rattle.std.proofs.lemmas.List.Elements.{All-push, All-nil, All-cons}
+use Rattle.std.proofs.lemmas.List.Elements.{All-nil, All-cons}
 use Rattle.std.proofs.lemmas.List.Quantifiers.{all_pairs_push}
-use Rattle.zir_chunk.specs.Contents.{Stamped, AtMost, IsSmall, no_stamp}
+use Rattle.zir_chunk.specs.Contents.{AtMost, no_stamp}
 use Rattle.zir_chunk.specs.Parts.{elements_of, last_of}
 use Rattle.zir_tree.specs.declared.ends.Stamp.{Stamp}
 
@@ -71,8 +70,9 @@ above_all stamps s rising above k d h =
     let within : length stamps - 1 < length stamps = omega arith in
     let last : AtMost (get_or stamps (length stamps - 1) d) s = subst (λ (t : Stamp). AtMost t s) (get_or_default stamps (length stamps - 1) no_stamp d within) above in
     elim (cases_lt k (length stamps - 1)) [
-      inl before ↦ AtMost-trans (get_or stamps k d) (get_or stamps (length stamps - 1) d) s (rising k (length stamps - 1) d before within) last
-    | inr after ↦ subst (λ (i : ℕ). AtMost (get_or stamps i d) s) (let e : length stamps - 1 ≡ k = omega arith in e) last ]
+      | inl before ↦ AtMost-trans (get_or stamps k d) (get_or stamps (length stamps - 1) d) s (rising k (length stamps - 1) d before within) last
+      | inr after ↦ subst (λ (i : ℕ). AtMost (get_or stamps i d) s) (let e : length stamps - 1 ≡ k = omega arith in e) last
+    ]
 
 -- one more stamp behind stamps that rise
 pub rising-push : (stamps : List Stamp) (s : Stamp) → AllPairs AtMost stamps → AtMost (last_of stamps) s → AllPairs AtMost (stamps ++ s ∷ [])

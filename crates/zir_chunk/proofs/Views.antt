@@ -1,10 +1,9 @@
 -- What the parts of a chunk say of its contents.
-use Rattle.std.proofs.Common.{ℕ, ◌+◌, ◌-◌, ◌*◌, ◌<◌, ◌≤◌, ◌≡◌, List, [], ◌∷◌, ◌++◌, length, map, None, subst, sym, refl, ap, ◌∙◌, arith}
-use Rattle.std.specs.Prelude.{ℤ, All, AllPairs, slice_get, IfSome}
-use Rattle.zir_chunk.specs.Contents.{Contents, AtMost, HasRoom, IsLawful, IsSmall, last_stamp, stamps_of}
-use Rattle.zir_chunk.specs.Parts.{contents_of, elements_of, last_of, IsKept}
+use Rattle.std.proofs.Common.{ℕ, ◌+◌, ◌<◌, ◌≤◌, ◌≡◌, length, None, subst, sym, ap, ◌∙◌, arith}
+use Rattle.zir_chunk.specs.Contents.{Contents, HasRoom, IsLawful, last_stamp}
+use Rattle.zir_chunk.specs.Parts.{contents_of, last_of, IsKept}
 use Rattle.zir_chunk.specs.declared.Chunk.TheInside.{Inside}
-use Rattle.zir_chunk.proofs.Cuts.{length-elements_of, stamps-elements_of, elements_of-push, cells-elements_of, sizes-elements_of, above_all}
+use Rattle.zir_chunk.proofs.Cuts.{length-elements_of, stamps-elements_of, sizes-elements_of}
 
 -- the last stamp of the elements is the last of the stamps
 pub last_stamp-is : (c : Inside) → last_stamp (contents_of c) ≡ last_of c.stamps.items
@@ -21,7 +20,8 @@ lawful c h = record {
   rising = rw stamps-elements_of h.rising;
   reached = h.reached;
   end_small = h.end_small;
-  end_last = rw (last_stamp-is c) h.end_last }
+  end_last = rw (last_stamp-is c) h.end_last;
+}
 
 -- room in the contents is room in the parts
 pub room_within : (c : Inside) → IsKept c → HasRoom (contents_of c) → (length c.stamps.items < 256) × (length c.cells.items + c.size ≤ 4096) × (c.end ≡ None)

@@ -47,7 +47,10 @@ fn gives_back_what_was_put(rt: HostRuntime) -> Result<(), Fail> {
     assert_eq!(rt; *chunk.element(1), *[2, -20].as_slice());
     assert_eq!(rt; chunk.stamp(1), Stamp { taken: 1, ticks: 9 });
     assert_eq!(rt; chunk.reached(), Stamp { taken: 2, ticks: 9 });
-    assert_eq!(rt; chunk.end(), Some((EndMark::Starved, Stamp { taken: 3, ticks: 9 })));
+    assert_eq!(rt;
+        chunk.end(),
+        Some((EndMark::Starved, Stamp { taken: 3, ticks: 9 }))
+    );
     assert!(rt; !chunk.room());
     chunk.clear(1);
     assert!(rt; chunk.is_empty() && chunk.room());

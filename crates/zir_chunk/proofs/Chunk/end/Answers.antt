@@ -1,4 +1,3 @@
-use Rattle.std.proofs.Common.{◌≡◌}
 use Rattle.zir_chunk.proofs.Views.{last_stamp-is}
 use Rattle.zir_chunk.proofs.Chunk.end.Goals as goal
 

@@ -1,4 +1,4 @@
-use Rattle.std.proofs.Common.{◌≡◌, length, arith, rules}
+use Rattle.std.proofs.Common.{rules}
 use Rattle.zir_chunk.proofs.Cuts.{length-elements_of}
 use Rattle.zir_chunk.proofs.Chunk.len.Goals as goal
 

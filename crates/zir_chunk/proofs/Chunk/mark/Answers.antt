@@ -19,4 +19,5 @@ invariant_of-self c =
       rising = c.self.invariant.rising;
       reached = c.self.invariant.reached;
       end_small = c.requires.small;
-      end_last = subst (λ t. AtMost t c.args.at) same c.requires.rising }
+      end_last = subst (λ t. AtMost t c.args.at) same c.requires.rising;
+    }

@@ -1,4 +1,4 @@
-use Rattle.std.proofs.Common.{ℕ, ◌≡◌, ◌≤◌, ◌<◌, ◌+◌, ◌*◌, length, ◌++◌, ◌∷◌, [], refl, length-append, arith, sym, ap, ◌∙◌, rules, subst}
+use Rattle.std.proofs.Common.{ℕ, ◌≡◌, ◌+◌, ◌*◌, length, ◌++◌, ◌∷◌, [], refl, length-append, arith, sym, ap, ◌∙◌, subst}
 use Rattle.std.proofs.lemmas.Grind.{common_steps}
 use Rattle.std.proofs.lemmas.List.Elements.{All-push}
 use Rattle.std.proofs.lemmas.Slice.{pushed}
@@ -42,7 +42,8 @@ invariant_of-self c =
       rising = rw stamps (rising-push c.self.inside.stamps.items c.args.stamp c.self.invariant.rising rising);
       reached = c.self.invariant.reached;
       end_small = c.self.invariant.end_small;
-      end_last = rw room.2 tt }
+      end_last = rw room.2 tt;
+    }
 
 pub returns-clause-pushed : goal.returns-clause-pushed
 returns-clause-pushed c =

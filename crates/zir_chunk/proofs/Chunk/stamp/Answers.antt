@@ -1,6 +1,5 @@
-use Rattle.std.proofs.Common.{refl, ◌≡◌, ◌<◌, length, arith, sym, ap, ◌∙◌, rules, subst}
+use Rattle.std.proofs.Common.{refl, ◌<◌, length, rules}
 use Rattle.std.proofs.lemmas.Option.{slice_get_read}
-use Rattle.zir_chunk.specs.Contents.{Contents}
 use Rattle.zir_chunk.proofs.Cuts.{stamps-elements_of}
 use Rattle.zir_chunk.proofs.Views.{count_within}
 use Rattle.zir_chunk.proofs.Chunk.stamp.Goals as goal
