@@ -11,8 +11,8 @@ pending piece count byte = bits_of piece ++ low_bits count byte
 pub record IsWritten (piece : List ℕ) (count byte : ℕ) : Type 0 where
   pub short : length piece ≤ 4095
   pub whole : All (λ b. b < 256) piece
-  pub count : count ≤ 7
-  pub byte : byte < 2 ^ count
+  pub few : count ≤ 7
+  pub low : byte < 2 ^ count
 
 -- the front bits went to the sink as a piece of 4,096 bytes, or no bits did and the sink was left alone
 pub record Puts {K : Type 0} (stands_for : K → List ℕ → Type 0) (before now : K) (old new : List Bool) : Type 0 where

@@ -31,7 +31,7 @@ impl Model for BitWriter {
 
     ghost use Rattle.std.specs.Prelude.{◌≤◌, vec_capacity};
 
-    ghost invariant = { λ w. IsWritten w.piece.items w.count w.byte × (4096 ≤ vec_capacity w.piece) };
+    ghost invariant = { λ w. (IsWritten w.piece.items w.count w.byte) × (4096 ≤ vec_capacity w.piece) };
 }
 
 impl BitWriter {
