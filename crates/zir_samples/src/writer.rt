@@ -1,7 +1,7 @@
 //! Bits put into a sink.
 
-ghost use Rattle.std.specs.Prelude.{◌≡◌, ◌<◌, ◌++◌, ◌∷◌, [], true, false, length, IfOk, OnOk, OnErr, vec_capacity};
-ghost use Rattle.zir_meaning.specs.Samples.{spell_bits};
+ghost use Rattle.std.specs.Prelude.{suc, ◌≡◌, ◌<◌, ◌≤◌, ◌^◌, ◌++◌, ◌∷◌, [], true, false, length, IfOk, OnOk, OnErr, vec_capacity};
+ghost use Rattle.zir_meaning.specs.Samples.{low_bits, spell_bits};
 ghost use Rattle.zir_outside.specs.Causes.{HasCause};
 ghost use Rattle.zir_outside.specs.Sinks.{Grew, GrewPart, Tells};
 ghost use Rattle.zir_samples.specs.Writing.{Puts};
@@ -55,9 +55,7 @@ impl BitWriter {
         ensures untold { Tells (K.stands_for sink.new) → Tells (K.stands_for sink.old) }
         ensures cause { HasCause (K.faults sink.old) (K.faults sink.new) result }
     {
-        if bit {
-            self.byte += 1 << self.count;
-        }
+        self.byte = with_bit(self.byte, self.count, bit);
         if self.count < 7 {
             self.count += 1;
             return Ok(());
@@ -101,6 +99,16 @@ impl BitWriter {
         self.count = 0;
         put_piece(&mut self.piece, sink)
     }
+}
+
+// A byte with a bit above its lowest ones.
+fn with_bit(byte: u8, count: u8, bit: bool) -> u8
+    requires few { count ≤ 7 }
+    requires low { byte < 2 ^ count }
+    ensures bits { low_bits (suc count) result ≡ low_bits count byte ++ bit ∷ [] }
+    ensures low { result < 2 ^ suc count }
+{
+    byte + (u8::from(bit) << count)
 }
 
 // Puts a piece, unless it is empty, and empties it.
