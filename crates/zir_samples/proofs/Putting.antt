@@ -1,5 +1,5 @@
 -- What a writer has pending after a bit, and what it puts.
-use Rattle.std.proofs.Common.{ℕ, zero, suc, ◌+◌, ◌*◌, ◌<◌, ◌≤◌, ◌≡◌, Bool, true, false, List, [], ◌∷◌, ◌++◌, length, refl, ap, sym, ◌∙◌, subst, inl, arith, append_assoc, length-append}
+use Rattle.std.proofs.Common.{ℕ, zero, suc, ◌+◌, ◌*◌, ◌<◌, ◌≤◌, ◌≡◌, Bool, true, false, List, [], ◌∷◌, ◌++◌, length, refl, ap, sym, ◌∙◌, subst, inl, inr, ◌⊎◌, arith, append_assoc, length-append}
 use Rattle.std.proofs.lemmas.List.{append-nil}
 use Rattle.std.specs.Prelude.{All}
 use Rattle.zir_meaning.specs.Samples.{bits_of, low_bits, spell_bits}
@@ -35,19 +35,20 @@ length-pending piece count byte = length-append (bits_of piece) (low_bits count 
 pub spell-whole : (finished : Bool) (piece : List ℕ) → All (λ b. b < 256) piece → spell_bits finished (bits_of piece) ≡ piece
 spell-whole f piece whole = ap (spell_bits f) (sym (append-nil (bits_of piece))) ∙ spell-bits_of f piece [] whole ∙ append-nil piece
 
--- where no bit of a last byte is pending, the bytes are spelled
-pub spell-pending-whole : (finished : Bool) (piece : List ℕ) (byte : ℕ) → All (λ b. b < 256) piece → spell_bits finished (pending piece 0 byte) ≡ piece
-spell-pending-whole f piece byte whole = spell-bits_of f piece [] whole ∙ append-nil piece
-
 -- padded, the bits of a last byte spell it
 pub spell-pending : (piece : List ℕ) (count byte : ℕ) → IsWritten piece count byte → 0 < count → spell_bits true (pending piece count byte) ≡ piece ++ byte ∷ []
 spell-pending piece count byte h some =
     spell-bits_of true piece (low_bits count byte) h.whole
     ∙ ap (λ bytes. piece ++ bytes) (spell-few (low_bits count byte) (rw length-low_bits some) (rw length-low_bits h.few) ∙ ap (λ n. n ∷ []) (number-low_bits count byte h.low))
 
--- not padded, they spell nothing
-pub spell-pending-none : (piece : List ℕ) (count byte : ℕ) → IsWritten piece count byte → spell_bits false (pending piece count byte) ≡ piece
-spell-pending-none piece count byte h =
-    spell-bits_of false piece (low_bits count byte) h.whole
+-- where they are not padded, or there are none, only whole bytes are spelled
+pub spell-pending-whole : (padded : Bool) (piece : List ℕ) (count byte : ℕ) → IsWritten piece count byte → (padded ≡ false) ⊎ (count ≡ 0) → spell_bits padded (pending piece count byte) ≡ piece
+spell-pending-whole padded piece count byte h (inl e) =
+    ap (λ f. spell_bits f (pending piece count byte)) e
+    ∙ spell-bits_of false piece (low_bits count byte) h.whole
     ∙ ap (λ bytes. piece ++ bytes) (spell-few-none (low_bits count byte) (rw length-low_bits h.few))
+    ∙ append-nil piece
+spell-pending-whole padded piece count byte h (inr e) =
+    ap (λ k. spell_bits padded (pending piece k byte)) e
+    ∙ spell-bits_of padded piece [] h.whole
     ∙ append-nil piece

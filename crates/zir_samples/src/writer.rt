@@ -55,12 +55,13 @@ impl BitWriter {
         ensures untold { Tells (K.stands_for sink.new) → Tells (K.stands_for sink.old) }
         ensures cause { HasCause (K.faults sink.old) (K.faults sink.new) result }
     {
-        self.byte = with_bit(self.byte, self.count, bit);
+        let byte = with_bit(self.byte, self.count, bit);
         if self.count < 7 {
+            self.byte = byte;
             self.count += 1;
             return Ok(());
         }
-        self.piece.push(self.byte).unwrap();
+        self.piece.push(byte).unwrap();
         self.byte = 0;
         self.count = 0;
         if self.piece.len() < PIECE {
@@ -78,12 +79,7 @@ impl BitWriter {
         ensures untold { Tells (K.stands_for sink.new) → Tells (K.stands_for sink.old) }
         ensures cause { HasCause (K.faults sink.old) (K.faults sink.new) result }
     {
-        if self.count > 0 {
-            self.piece.push(self.byte).unwrap();
-            self.byte = 0;
-            self.count = 0;
-        }
-        put_piece(&mut self.piece, sink)
+        self.put_rest(true, sink)
     }
 
     /// Writes the whole bytes of what is left, and drops the bits behind them. Afterwards the writer holds nothing.
@@ -95,6 +91,21 @@ impl BitWriter {
         ensures untold { Tells (K.stands_for sink.new) → Tells (K.stands_for sink.old) }
         ensures cause { HasCause (K.faults sink.old) (K.faults sink.new) result }
     {
+        self.put_rest(false, sink)
+    }
+
+    // Puts what is left, with a last byte that is not whole only where it is padded.
+    fn put_rest<K: Sink>(&mut self, padded: bool, sink: &mut K) -> Result<(), Failed>
+        ensures ok { OnOk result (Grew (K.stands_for sink.old) (K.stands_for sink.new) (spell_bits padded self.old)) }
+        ensures failed { OnErr result (GrewPart (spell_bits padded self.old) (K.stands_for sink.old) (K.stands_for sink.new)) }
+        ensures spent { self.new ≡ [] }
+        ensures nothing { spell_bits padded self.old ≡ [] → sink.new ≡ sink.old }
+        ensures untold { Tells (K.stands_for sink.new) → Tells (K.stands_for sink.old) }
+        ensures cause { HasCause (K.faults sink.old) (K.faults sink.new) result }
+    {
+        if padded && self.count > 0 {
+            self.piece.push(self.byte).unwrap();
+        }
         self.byte = 0;
         self.count = 0;
         put_piece(&mut self.piece, sink)
