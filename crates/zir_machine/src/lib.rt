@@ -1,6 +1,0 @@
-//! A machine that runs a component piece by piece: it stops at each output, each need and its end.
-#![tactic(auto)]
-
-pub mod eval;
-pub mod node;
-pub mod progress;
