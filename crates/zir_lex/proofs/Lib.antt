@@ -1,0 +1,5 @@
+pub mod DigitSums
+pub mod FirstBytes
+pub mod Longest
+pub mod Prefixes
+pub mod Readers
