@@ -1,8 +1,12 @@
 -- What the readers of each kind find at the front of a text.
-use Rattle.std.proofs.Common.{◌≡◌, ◌≢◌, ℕ, ◌+◌, ◌<◌, ◌≤◌, Bool, true, false, cond, ◌&&◌, ◌||◌, List, [], ◌∷◌, ◌++◌, length, get_or, take, drop, sym, ◌∙◌, ap, refl, subst, inl, inr, ◌⊎◌, arith, IsTrue, Some, None, Ok, Err, Result, suc, eqb, eqb-true, true≢false, slice_range, add-one, take-suc, take-append-drop, length-take-le, append_assoc, length-append, one-add}
+use Rattle.std.proofs.Common.{◌≡◌, ◌≢◌, ℕ, ◌+◌, ◌-◌, ◌<◌, ◌≤◌, Bool, true, false, cond, ◌&&◌, ◌||◌, List, [], ◌∷◌, ◌++◌, length, get_or, take, drop, sym, ◌∙◌, ap, refl, subst, inl, inr, ◌⊎◌, arith, IsTrue, Some, None, Ok, Err, Result, suc, eqb, eqb-true, true≢false, nat_eq, slice_range, add-one, take-suc, take-append-drop, length-drop, length-take-le, append_assoc, length-append, one-add}
 use Rattle.std.specs.List.{prefix_len, list_all}
+use Rattle.std.specs.List.{starts_with}
+use Rattle.std.proofs.lemmas.Slice.Eq.{starts_is}
+use Rattle.std.proofs.lemmas.Bool.Decides.{Decides-eqb}
 use Rattle.std.proofs.lemmas.Bool.{and_parts}
 use Rattle.std.proofs.lemmas.List.Sums.{prefix_len-le-length}
+use Rattle.std.proofs.lemmas.List.{take_rest}
 use Rattle.zir_lex.specs.Classes.{is_white, is_letter, is_word_byte, is_string_byte, is_line_byte, number_of}
 use Rattle.zir_lex.specs.Tables.{keyword_bytes, symbol_bytes}
 use Rattle.zir_lex.specs.Spelling.{Piece, White, Comment, Word, piece_bytes, IsPiece, IsWord, IsDecimal, IsHexadecimal}
@@ -17,7 +21,7 @@ use Rattle.zir_lex.specs.declared.token.Keyword.{Keyword}
 use Rattle.zir_lex.specs.declared.token.Lexeme.TheVariants as lexeme
 use Rattle.zir_lex.proofs.FirstBytes.{white_kind, letter_kind, digit_kind, sign_in_dashes}
 use Rattle.zir_lex.proofs.Longest.{Within, HasBit, HasString, front_of, longest_of, bad_byte_of, within_word, within_white, within_sign, within_decimal, within_hexadecimal, no_sign, bit_at, string_at}
-use Rattle.zir_lex.proofs.Prefixes.{front_passes, front_within}
+use Rattle.zir_lex.proofs.Prefixes.{front_passes, front_within, weaker}
 
 -- the bytes of a bit
 two_bytes : (text : List ℕ) (a b : ℕ) → 2 ≤ length text → get_or text 0 0 ≡ a → get_or text 1 0 ≡ b → take 2 text ≡ a ∷ b ∷ []
@@ -64,6 +68,10 @@ no_bit text some quote zero one =
       let has : HasBit text (piece_bytes other) = bit_at text (ap kind_of quote) other after spelled whole same in
       elim has.bit [ inl e ↦ zero has.within e | inr e ↦ one has.within e ])
 
+closing_at : (text : List ℕ) (len : ℕ) → get_or text (len + 1) 0 ≡ get_or (drop 1 text) len 0
+closing_at [] len = refl
+closing_at (b ∷ bs) len = rw add-one refl
+
 -- the string at the front of a text, and where none stands
 pub string_front : (text string : List ℕ) (len : ℕ) → len ≡ prefix_len is_string_byte (drop 1 text) → len + 2 ≤ length text → get_or text 0 0 ≡ 34 → get_or text (len + 1) 0 ≡ 34 → string ≡ take len (drop 1 text) → IsFront (record { lexeme = Some (lexeme.Text string); len = len + 2 }) text
 string_front text string len len_is fits quote closing string_is =
@@ -76,6 +84,24 @@ no_string text len some quote len_is unclosed =
     bad_byte_of text some (λ other after spelled whole same.
       let has : HasString text (piece_bytes other) = string_at text (ap kind_of quote) other after spelled whole same in
       unclosed (omega (arith, has.within)) (rw len_is has.quote))
+
+-- the same, of the text behind the quote
+pub string_behind : (text string : List ℕ) (len closing : ℕ) → 0 < length text → get_or text 0 0 ≡ 34 → len ≡ prefix_len is_string_byte (take (length text - 1) (drop 1 text)) → len < length (take (length text - 1) (drop 1 text)) → closing ≡ get_or (take (length text - 1) (drop 1 text)) len 0 → closing ≡ 34 → string ≡ take len (take (length text - 1) (drop 1 text)) → IsFront (record { lexeme = Some (lexeme.Text string); len = len + 2 }) text
+string_behind text string len closing some quote len_is long closing_is closes string_is =
+    let behind : take (length text - 1) (drop 1 text) ≡ drop 1 text = take_rest text 1 in
+    let fits : len < length (drop 1 text) = subst (λ (l : List ℕ). len < length l) behind long in
+    let less : length (drop 1 text) ≡ length text - 1 = length-drop 1 text in
+    string_front text string len (len_is ∙ ap (prefix_len is_string_byte) behind) (omega arith) quote
+    (closing_at text len ∙ sym (ap (λ l. get_or l len 0) behind) ∙ sym closing_is ∙ closes)
+    (string_is ∙ ap (take len) behind)
+
+pub no_string_behind : (text : List ℕ) (len : ℕ) → 0 < length text → get_or text 0 0 ≡ 34 → len ≡ prefix_len is_string_byte (take (length text - 1) (drop 1 text)) → (len < length (take (length text - 1) (drop 1 text)) → get_or (take (length text - 1) (drop 1 text)) len 0 ≢ 34) → IsBadByte text
+no_string_behind text len some quote len_is unclosed =
+    let behind : take (length text - 1) (drop 1 text) ≡ drop 1 text = take_rest text 1 in
+    let less : length (drop 1 text) ≡ length text - 1 = length-drop 1 text in
+    let as_long : length (take (length text - 1) (drop 1 text)) ≡ length (drop 1 text) = ap length behind in
+    no_string text len some quote (len_is ∙ ap (prefix_len is_string_byte) behind)
+    (λ fits closes. unclosed (omega arith) (ap (λ l. get_or l len 0) behind ∙ sym (closing_at text len) ∙ closes))
 
 -- a comment
 comment_taken : (rest : List ℕ) (n : ℕ) → 45 ∷ 45 ∷ take n rest ≡ take (2 + n) (45 ∷ 45 ∷ rest)
@@ -96,6 +122,13 @@ comment_in rest len len_is =
 
 pub comment_front : (text rest : List ℕ) (len : ℕ) → text ≡ 45 ∷ 45 ∷ rest → len ≡ prefix_len is_line_byte (drop 2 text) → IsFront (record { lexeme = None; len = 2 + len }) text
 comment_front text rest len dashes len_is = rw dashes (comment_in rest len (len_is ∙ ap (λ l. prefix_len is_line_byte (drop 2 l)) dashes))
+
+-- whether two dashes stand at the front
+pub dashes : (text : List ℕ) (answer : Bool) → answer ≡ starts_with nat_eq text (45 ∷ 45 ∷ []) → answer ≡ true → text ≡ 45 ∷ 45 ∷ drop 2 text
+dashes text answer same holds = (starts_is Decides-eqb text (45 ∷ 45 ∷ []) answer same).0 holds
+
+pub no_dashes : (text : List ℕ) (answer : Bool) → answer ≡ starts_with nat_eq text (45 ∷ 45 ∷ []) → answer ≡ false → (rest : List ℕ) → text ≡ 45 ∷ 45 ∷ rest → ⊥
+no_dashes text answer same otherwise rest whole = true≢false (sym ((starts_is Decides-eqb text (45 ∷ 45 ∷ []) answer same).1 rest whole) ∙ otherwise)
 
 -- a sign where no comment stands, and where there is none
 pub sign_front : (text : List ℕ) (symbol : Symbol) (len : ℕ) → kind_of (get_or text 0 0) ≡ OfSign → ((rest : List ℕ) → text ≡ 45 ∷ 45 ∷ rest → ⊥) → IsLongestSign symbol len text → IsFront (record { lexeme = Some (lexeme.Symbol symbol); len = len }) text
@@ -188,3 +221,14 @@ hexadecimal_reads result value len text begins len_is value_is read =
       value = value_is ∙ ap (λ l. number_of 16 (take len l)) behind;
     }))
     (subst (λ (n : ℕ). Within text (n + 2)) (sym len_is) (within_hexadecimal text begins (ap (λ l. kind_of (get_or l 0 0)) it.shape))) read
+
+-- a decimal digit is a hexadecimal one
+decimal_is_hexadecimal : (b : ℕ) → is_ascii_digit b ≡ true → is_ascii_hexdigit b ≡ true
+decimal_is_hexadecimal b digit = rw digit refl
+
+-- the digits of either base are hexadecimal
+pub decimal_digits : (text : List ℕ) (len : ℕ) → len ≡ prefix_len is_ascii_digit text → list_all is_ascii_hexdigit (take len text) ≡ true
+decimal_digits text len len_is = weaker is_ascii_digit is_ascii_hexdigit decimal_is_hexadecimal (take len text) (rw len_is (front_passes is_ascii_digit text))
+
+pub hexadecimal_digits : (text : List ℕ) (len : ℕ) → len ≡ prefix_len is_ascii_hexdigit text → list_all is_ascii_hexdigit (take len text) ≡ true
+hexadecimal_digits text len len_is = rw len_is (front_passes is_ascii_hexdigit text)

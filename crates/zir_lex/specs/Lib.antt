@@ -4,3 +4,4 @@ pub mod Spelling
 pub mod Places
 pub mod Tokens
 pub mod Fronts
+pub mod Laws

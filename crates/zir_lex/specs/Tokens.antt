@@ -1,8 +1,10 @@
 -- The tokens of a text, and its first fault.
-use Rattle.std.specs.Prelude.{◌≡◌, ◌≢◌, ℕ, ◌+◌, ◌≤◌, ◌<◌, ◌^◌, ◌⊎◌, List, [], ◌∷◌, ◌++◌, length, IsTrue, IsFalse}
+use Rattle.std.specs.Prelude.{◌≡◌, ◌≢◌, ℕ, ◌≤◌, ◌<◌, ◌^◌, ◌⊎◌, List, [], ◌∷◌, ◌++◌, length, IsTrue, IsFalse}
 use Rattle.zir_lex.specs.Classes.{begins_word}
 use Rattle.zir_lex.specs.Spelling.{Piece, White, Comment, Word, piece_bytes, IsPiece, text_of}
 use Rattle.zir_lex.specs.Places.{place_past, first_place}
+use Rattle.zir_lex.specs.declared.lexer.LexError.{LexError}
+use Rattle.zir_lex.specs.declared.lexer.LexError.TheVariants as errors
 use Rattle.zir_lex.specs.declared.token.Token.{Token}
 use Rattle.zir_lex.specs.declared.token.Lexeme.{Lexeme}
 use Rattle.zir_lex.specs.declared.token.Lexeme.TheVariants as lexeme
@@ -34,12 +36,16 @@ abbrev pub AreRead : List Piece → List ℕ → Type 0
 AreRead [] rest = Unit {0}
 AreRead (piece ∷ pieces) rest = Stands piece (text_of pieces ++ rest) × AreRead pieces rest
 
+-- the token of a piece at a place, where the piece is a lexeme
+abbrev pub token_of : Place → Piece → List Token
+token_of place (White b) = []
+token_of place (Comment line) = []
+token_of place (Word word bytes) = record { lexeme = word; at = place } ∷ []
+
 -- the tokens of pieces, the first of which stands at a place
 abbrev pub tokens_from : Place → List Piece → List Token
 tokens_from place [] = []
-tokens_from place (White b ∷ pieces) = tokens_from (place_past place (b ∷ [])) pieces
-tokens_from place (Comment line ∷ pieces) = tokens_from (place_past place (45 ∷ 45 ∷ line)) pieces
-tokens_from place (Word word bytes ∷ pieces) = record { lexeme = word; at = place } ∷ tokens_from (place_past place bytes) pieces
+tokens_from place (piece ∷ pieces) = token_of place piece ++ tokens_from (place_past place (piece_bytes piece)) pieces
 
 -- up to an offset the text is read as pieces, and the rest stands there
 pub record IsReadTo (text : List ℕ) (pieces : List Piece) (rest : List ℕ) : Type 0 where
@@ -82,3 +88,10 @@ pub record BadNumberAt (text : List ℕ) (at : ℕ) : Type 0 where
   pub read : IsReadTo text pieces rest
   pub place : at ≡ length (text_of pieces)
   pub bad : IsBadNumber rest
+
+-- the cause of a refusal: more than 65,536 bytes, or else the first fault; want of memory has none
+abbrev pub IsRefusal : LexError → List ℕ → Type 0
+IsRefusal errors.TooLong text = 65536 < length text
+IsRefusal (errors.BadByte at) text = (length text ≤ 65536) × BadByteAt text at
+IsRefusal (errors.BadNumber at) text = (length text ≤ 65536) × BadNumberAt text at
+IsRefusal errors.Memory text = Unit {0}

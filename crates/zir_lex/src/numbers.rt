@@ -1,6 +1,6 @@
 // Numbers.
 
-ghost use Rattle.std.specs.Prelude.{◌≡◌, ◌*◌, ◌+◌, ◌<◌, ◌≤◌, ◌^◌, IsTrue, MatchOption, slice_index, slice_range, length, drop};
+ghost use Rattle.std.specs.Prelude.{◌≡◌, ◌*◌, ◌+◌, ◌<◌, ◌≤◌, ◌^◌, IsTrue, MatchOption, slice_index, length, drop};
 ghost use Rattle.std.specs.Char.{is_ascii_digit, is_ascii_hexdigit, digit_value};
 ghost use Rattle.std.specs.List.{list_all};
 ghost use Rattle.zir_lex.specs.Classes.{number_of};
@@ -65,17 +65,17 @@ fn is_hexadecimal(text: &[u8]) -> bool
     text.len() > 2 && text[0] == b'0' && text[1] == b'x' && text[2].is_ascii_hexdigit()
 }
 
-/// The number whose spelling has `len` bytes, with its digits from `start` on.
-fn number_within(text: &[u8], base: u64, start: usize, len: usize) -> Result<Front, FrontError>
-    requires range { (start ≤ len) × (len ≤ length text.now) }
+/// The number of these digits, where the spelling takes `len` bytes of the text.
+fn number_within(text: &[u8], len: usize, base: u64, digits: &[u8]) -> Result<Front, FrontError>
+    requires len { len ≤ length text.now }
     requires base { (0 < base) × (base ≤ 16) }
-    requires digits { IsTrue (list_all is_ascii_hexdigit (slice_range text.now start len)) }
-    ensures { ReadsNumber result (number_of base (slice_range text.now start len)) len (drop len text.now) }
+    requires digits { IsTrue (list_all is_ascii_hexdigit digits.now) }
+    ensures { ReadsNumber result (number_of base digits.now) len (drop len text.now) }
 {
     if len < text.len() && is_word_byte(text[len]) {
         return Err(FrontError::BadNumber);
     }
-    match value_of(base, &text[start..len]) {
+    match value_of(base, digits) {
         Some(value) => Ok(Front { lexeme: Some(Lexeme::Int(value)), len }),
         None => Err(FrontError::BadNumber),
     }
@@ -88,9 +88,11 @@ pub fn read_number(text: &[u8]) -> Result<Front, FrontError>
     ensures { Reads result text.now }
 {
     if is_hexadecimal(text) {
-        let len = 2 + hexadecimal_len(&text[2..]);
-        number_within(text, 16, 2, len)
+        let behind = &text[2..];
+        let len = hexadecimal_len(behind);
+        number_within(text, len + 2, 16, &behind[..len])
     } else {
-        number_within(text, 10, 0, decimal_len(text))
+        let len = decimal_len(text);
+        number_within(text, len, 10, &text[..len])
     }
 }

@@ -1,6 +1,6 @@
 // Places in a text.
 
-ghost use Rattle.std.specs.Prelude.{◌≡◌, ◌+◌, ◌<◌, ◌^◌, length};
+ghost use Rattle.std.specs.Prelude.{◌≡◌, ◌+◌, ◌<◌, ◌≤◌, ◌^◌, length};
 ghost use Rattle.zir_lex.specs.Places.{place_past, place_of};
 
 use zir_tree::place::Place;
@@ -19,7 +19,9 @@ pub fn place_at(text: &[u8], at: u32) -> Place
 pub fn place_past(start: Place, bytes: &[u8]) -> Place
     requires lines { start.line + length bytes.now < 2 ^ 32 }
     requires columns { start.col + length bytes.now < 2 ^ 32 }
-    ensures { result ≡ place_past start bytes.now }
+    ensures place { result ≡ place_past start bytes.now }
+    ensures line { result.line ≤ start.line + length bytes.now }
+    ensures column { result.col ≤ start.col + length bytes.now }
 {
     let mut place = start;
     for byte in bytes {

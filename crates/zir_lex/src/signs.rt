@@ -1,6 +1,6 @@
 // Comments, signs, bits and strings.
 
-ghost use Rattle.std.specs.Prelude.{◌≡◌, ◌≢◌, ◌∷◌, [], ◌<◌, IsTrue, MatchOption, slice_index, length};
+ghost use Rattle.std.specs.Prelude.{◌≡◌, ◌≢◌, ◌∷◌, [], ◌<◌, IsTrue, IsFalse, MatchOption, slice_index, length};
 ghost use Rattle.zir_lex.specs.declared.token.Symbol.{Symbol};
 ghost use Rattle.zir_lex.specs.Tables.{symbol_bytes};
 ghost use Rattle.zir_lex.specs.Fronts.{Reads, kind_of, OfSign, HasNoSign, IsLongestSign};
@@ -109,11 +109,11 @@ pub fn read_bit(text: &[u8]) -> Result<Front, FrontError>
     requires quote { slice_index text.now 0 ≡ 39 }
     ensures { Reads result text.now }
 {
-    if text.len() > 1 && (text[1] == b'0' || text[1] == b'1') {
-        let bit = text[1] == b'1';
-        return Ok(Front { lexeme: Some(Lexeme::Bit(bit)), len: 2 });
+    match text.get(1) {
+        Some(b'0') => Ok(Front { lexeme: Some(Lexeme::Bit(false)), len: 2 }),
+        Some(b'1') => Ok(Front { lexeme: Some(Lexeme::Bit(true)), len: 2 }),
+        _ => Err(FrontError::BadByte),
     }
-    Err(FrontError::BadByte)
 }
 
 /// The string at the front of a text that begins with `"`.
@@ -122,11 +122,19 @@ pub fn read_string(alloc: Global, text: &[u8]) -> Result<Front, FrontError>
     requires quote { slice_index text.now 0 ≡ 34 }
     ensures { Reads result text.now }
 {
-    let len = string_len(&text[1..]);
-    let end = len + 1;
-    if end == text.len() || text[end] != b'"' {
+    let inside = &text[1..];
+    let len = string_len(inside);
+    if !has_quote(inside, len) {
         return Err(FrontError::BadByte);
     }
-    let inside = Name::from_slice(alloc, &text[1..end])?;
-    Ok(Front { lexeme: Some(Lexeme::Text(inside)), len: end + 1 })
+    let string = Name::from_slice(alloc, &inside[..len])?;
+    Ok(Front { lexeme: Some(Lexeme::Text(string)), len: len + 2 })
+}
+
+/// Whether a `"` stands at the offset.
+fn has_quote(text: &[u8], at: usize) -> bool
+    ensures yes { IsTrue result → (at < length text.now) × (slice_index text.now at ≡ 34) }
+    ensures none { IsFalse result → at < length text.now → slice_index text.now at ≢ 34 }
+{
+    at < text.len() && text[at] == b'"'
 }

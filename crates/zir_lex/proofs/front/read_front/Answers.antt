@@ -1,8 +1,7 @@
-use Rattle.std.proofs.Common.{rules, ◌≡◌, ◌<◌, length, ℕ, ◌+◌, ◌-◌, ◌*◌, ◌≤◌, ◌/◌, ◌%◌, Bool, true, false, nat_eq, nat_lt, List, [], ◌∷◌, ◌++◌, slice_index_or, slice_set, bit_and, bit_or, Fits, w8, w32, w64, Bor, MutBor}
-use Rattle.zir_lex.specs.Fronts.{Reads}
-use Rattle.zir_lex.specs.declared.front.FrontError.TheVariants.{Memory}
+-- A byte of white space is a piece.
+use Rattle.std.proofs.Common.{sym}
+use Rattle.zir_lex.proofs.Readers.{white_front}
 use Rattle.zir_lex.proofs.front.read_front.Goals as goal
 
--- src/front.rt:44:9
 pub returns-then-is_white : goal.returns-then-is_white
-returns-then-is_white c = ?
+returns-then-is_white c = white_front c.args.text.now c.requires (sym c.if-is_white.ensures)

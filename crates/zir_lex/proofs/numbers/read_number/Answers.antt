@@ -1,23 +1,21 @@
-use Rattle.std.proofs.Common.{rules, ◌≡◌, ◌*◌, ◌+◌, ◌<◌, ◌≤◌, ◌^◌, IsTrue, MatchOption, slice_index, slice_range, length, drop, ℕ, ◌-◌, ◌/◌, ◌%◌, Bool, true, false, nat_eq, nat_lt, List, [], ◌∷◌, ◌++◌, slice_index_or, slice_set, bit_and, bit_or, Fits, w8, w32, w64, Bor, MutBor}
-use Rattle.std.specs.Char.{is_ascii_digit, is_ascii_hexdigit, digit_value}
-use Rattle.std.specs.List.{list_all}
+-- A number is as long as its digits go on, in the base that its front tells.
+use Rattle.std.proofs.Common.{take, refl, sym, ap, ◌∙◌}
+use Rattle.std.specs.List.{prefix_len}
+use Rattle.std.specs.Char.{is_ascii_hexdigit}
+use Rattle.std.proofs.lemmas.List.{take_rest}
 use Rattle.zir_lex.specs.Classes.{number_of}
-use Rattle.zir_lex.specs.Fronts.{Reads, ReadsNumber, begins_hexadecimal}
+use Rattle.zir_lex.proofs.Readers.{decimal_digits, hexadecimal_digits, decimal_reads, hexadecimal_reads}
 use Rattle.zir_lex.proofs.numbers.read_number.Goals as goal
 
--- src/numbers.rt:92:9
 pub number_within-requires-clause-digits : goal.number_within-requires-clause-digits
-number_within-requires-clause-digits c = ?
+number_within-requires-clause-digits c = hexadecimal_digits _ c.hexadecimal_len-len.result c.hexadecimal_len-len.ensures.value
 
--- src/numbers.rt:94:9
 pub number_within-requires-else-is_hexadecimal-clause-digits :
     goal.number_within-requires-else-is_hexadecimal-clause-digits
-number_within-requires-else-is_hexadecimal-clause-digits c = ?
+number_within-requires-else-is_hexadecimal-clause-digits c = decimal_digits c.args.text.now c.decimal_len-len.result c.decimal_len-len.ensures.value
 
--- src/numbers.rt:85:1
 pub returns-then-is_hexadecimal : goal.returns-then-is_hexadecimal
-returns-then-is_hexadecimal c = ?
+returns-then-is_hexadecimal c = hexadecimal_reads c.number_within.result _ c.hexadecimal_len-len.result c.args.text.now (sym c.if-is_hexadecimal.ensures) (c.hexadecimal_len-len.ensures.value ∙ ap (prefix_len is_ascii_hexdigit) (take_rest c.args.text.now 2)) (ap (λ l. number_of 16 (take c.hexadecimal_len-len.result l)) (take_rest c.args.text.now 2)) c.number_within.ensures
 
--- src/numbers.rt:85:1
 pub returns-else-is_hexadecimal : goal.returns-else-is_hexadecimal
-returns-else-is_hexadecimal c = ?
+returns-else-is_hexadecimal c = decimal_reads c.number_within-else-is_hexadecimal.result _ c.decimal_len-len.result c.args.text.now c.requires.some c.requires.digit (sym c.if-is_hexadecimal.ensures) c.decimal_len-len.ensures.value refl c.number_within-else-is_hexadecimal.ensures

@@ -1,9 +1,14 @@
-use Rattle.std.proofs.Common.{rules, ◌≡◌, ◌≢◌, ◌∷◌, [], ◌<◌, IsTrue, MatchOption, slice_index, length, ℕ, ◌+◌, ◌-◌, ◌*◌, ◌≤◌, ◌/◌, ◌%◌, Bool, true, false, nat_eq, nat_lt, List, ◌++◌, slice_index_or, slice_set, bit_and, bit_or, Fits, w8, w32, w64, Bor, MutBor}
-use Rattle.zir_lex.specs.declared.token.Symbol.{Symbol}
-use Rattle.zir_lex.specs.Tables.{symbol_bytes}
-use Rattle.zir_lex.specs.Fronts.{Reads, kind_of, OfSign, HasNoSign, IsLongestSign}
+-- The two bits.
+use Rattle.std.proofs.Common.{arith, ◌≡◌, ◌<◌, length, ltb-true, sym, ◌∙◌, true, false}
+use Rattle.zir_lex.proofs.Readers.{bit_front}
 use Rattle.zir_lex.proofs.signs.read_bit.Goals as goal
 
--- src/signs.rt:114:9
-pub returns-then-text-eq49 : goal.returns-then-text-eq49
-returns-then-text-eq49 c = ?
+pub returns-in-Some-eq48 : goal.returns-in-Some-eq48
+returns-in-Some-eq48 c =
+    let long : 1 < length c.args.text.now = c.in-Some-eq48.ensures.lookup.3.0 in
+    bit_front c.args.text.now false (omega arith) c.requires.quote (sym (c.in-Some-eq48.ensures.lookup.3.1 0) ∙ c.in-Some-eq48.field-0-test)
+
+pub returns-in-Some-eq49 : goal.returns-in-Some-eq49
+returns-in-Some-eq49 c =
+    let long : 1 < length c.args.text.now = c.in-Some-eq49.ensures.lookup.3.0 in
+    bit_front c.args.text.now true (omega arith) c.requires.quote (sym (c.in-Some-eq49.ensures.lookup.3.1 0) ∙ c.in-Some-eq49.field-0-test)

@@ -1,13 +1,12 @@
-use Rattle.std.proofs.Common.{rules, ◌≡◌, ◌≢◌, ◌∷◌, [], ◌<◌, IsTrue, MatchOption, slice_index, length, ℕ, ◌+◌, ◌-◌, ◌*◌, ◌≤◌, ◌/◌, ◌%◌, Bool, true, false, nat_eq, nat_lt, List, ◌++◌, slice_index_or, slice_set, bit_and, bit_or, Fits, w8, w32, w64, Bor, MutBor}
-use Rattle.zir_lex.specs.declared.token.Symbol.{Symbol}
-use Rattle.zir_lex.specs.Tables.{symbol_bytes}
-use Rattle.zir_lex.specs.Fronts.{Reads, kind_of, OfSign, HasNoSign, IsLongestSign}
+-- A string ends at the first byte that it cannot hold, which is its quote.
+use Rattle.std.proofs.Common.{refl, sym}
+use Rattle.zir_lex.proofs.Readers.{string_behind, no_string_behind}
 use Rattle.zir_lex.proofs.signs.read_string.Goals as goal
 
--- src/signs.rt:128:9
-pub returns-then-end-text : goal.returns-then-end-text
-returns-then-end-text c = ?
+pub returns-then-not-has_quote : goal.returns-then-not-has_quote
+returns-then-not-has_quote c = no_string_behind c.args.text.now c.string_len-len.result c.requires.some c.requires.quote c.string_len-len.ensures.value (c.has_quote.ensures.none c.if-not-has_quote.true)
 
--- src/signs.rt:120:1
 pub returns : goal.returns
-returns c = ?
+returns c =
+    let quote = c.has_quote.ensures.yes c.if-not-has_quote.false in
+    string_behind c.args.text.now c.in_ok-string.string c.string_len-len.result 34 c.requires.some c.requires.quote c.string_len-len.ensures.value quote.0 (sym quote.1) refl c.in_ok-string.ensures
