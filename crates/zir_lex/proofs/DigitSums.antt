@@ -1,5 +1,5 @@
 -- The number that digits spell, one digit more at a time.
-use Rattle.std.proofs.Common.{◌≡◌, ℕ, ◌+◌, ◌*◌, ◌^◌, ◌<◌, ◌≤◌, List, [], ◌∷◌, ◌++◌, length, get_or, take, drop, sym, ◌∙◌, ap, refl, arith, add-one, length-append, take-append-drop, take-suc, pow-add, pow-suc, mul-le-mul_left}
+use Rattle.std.proofs.Common.{◌≡◌, ℕ, ◌+◌, ◌*◌, ◌^◌, ◌<◌, ◌≤◌, List, [], ◌∷◌, ◌++◌, length, get_or, take, drop, ◌∙◌, ap, arith, add-one, length-append, take-append-drop, take-suc, pow-add, pow-suc, mul-le-mul_left}
 use Rattle.std.proofs.Math.Nat.{one-le-pow, pow-zero}
 use Rattle.std.specs.Char.{digit_value}
 use Rattle.zir_lex.specs.Classes.{number_of}

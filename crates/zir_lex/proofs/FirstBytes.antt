@@ -1,18 +1,17 @@
 -- The first byte of a piece tells its kind.
-use Rattle.std.proofs.Common.{◌≡◌, ◌≢◌, ℕ, ◌+◌, ◌<◌, ◌≤◌, Bool, true, false, cond, ◌&&◌, ◌||◌, List, [], ◌∷◌, ◌++◌, length, get_or, take, drop, sym, ◌∙◌, ap, refl, inl, inr, ◌⊎◌, ⊎_elim, arith, IsTrue}
-use Rattle.std.specs.List.{prefix_len, list_all}
+use Rattle.std.proofs.Common.{◌≡◌, ℕ, ◌<◌, ◌≤◌, true, false, cond, List, [], ◌∷◌, ◌++◌, length, get_or, ap, refl, inl, inr, arith}
+use Rattle.std.specs.List.{list_all}
 use Rattle.std.specs.Char.{is_ascii_digit}
 use Rattle.std.proofs.lemmas.Bool.{and_parts}
 use Rattle.std.proofs.lemmas.Bool.Decides.{nat_tests}
-use Rattle.zir_lex.specs.Classes.{is_white, is_letter, is_word_byte}
+use Rattle.zir_lex.specs.Classes.{is_white, is_letter}
 use Rattle.zir_lex.specs.Tables.{keyword_bytes, symbol_bytes}
-use Rattle.zir_lex.specs.Spelling.{Piece, White, Comment, Word, piece_bytes, IsPiece, IsWord, IsDecimal, IsHexadecimal}
+use Rattle.zir_lex.specs.Spelling.{Piece, White, Comment, Word, piece_bytes, IsPiece, IsWord, IsDecimal}
 use Rattle.zir_lex.specs.Fronts.{Kind, OfWhite, OfWord, OfNumber, OfBit, OfString, OfSign, kind_of}
 use Rattle.zir_lex.specs.declared.token.Keyword.{Keyword}
 use Rattle.zir_lex.specs.declared.token.Keyword.TheVariants as keywords
 use Rattle.zir_lex.specs.declared.token.Symbol.{Symbol}
 use Rattle.zir_lex.specs.declared.token.Symbol.TheVariants as symbols
-use Rattle.zir_lex.specs.declared.token.Lexeme.{Lexeme}
 use Rattle.zir_lex.specs.declared.token.Lexeme.TheVariants as lexeme
 
 -- a letter is no white space

@@ -5,4 +5,5 @@ pub mod Longest
 pub mod Prefixes
 pub mod Readers
 pub mod Reading
+pub mod Rows
 pub mod Unique

@@ -1,20 +1,19 @@
 -- The longest piece of each kind at the front of a text.
-use Rattle.std.proofs.Common.{◌≡◌, ◌≢◌, ℕ, ◌+◌, ◌<◌, ◌≤◌, Bool, true, false, cond, ◌&&◌, ◌||◌, List, [], ◌∷◌, ◌++◌, length, get_or, take, drop, sym, ◌∙◌, ap, refl, subst, inl, inr, ◌⊎◌, arith, IsTrue, take-append-drop, length-take-le, append_assoc, length-append, one-add, add-one, eqb, eqb-true, true≢false}
+use Rattle.std.proofs.Common.{◌≡◌, ℕ, ◌+◌, ◌<◌, ◌≤◌, Bool, true, false, cond, List, [], ◌∷◌, ◌++◌, length, get_or, take, drop, sym, ◌∙◌, ap, refl, subst, inl, inr, ◌⊎◌, arith, IsTrue, take-append-drop, length-take-le, append_assoc, length-append, add-one, eqb, eqb-true, true≢false}
 use Rattle.std.proofs.Math.Seq.{get_or-append_seam}
 use Rattle.std.proofs.lemmas.Bool.{cases_lt}
 use Rattle.std.proofs.lemmas.List.Sums.{prefix_len_passes}
 use Rattle.std.specs.List.{prefix_len, list_all}
 use Rattle.std.specs.Char.{is_ascii_digit, is_ascii_hexdigit}
 use Rattle.std.proofs.lemmas.Bool.{and_parts}
-use Rattle.zir_lex.specs.Classes.{is_white, is_letter, is_word_byte, is_string_byte, is_line_byte}
-use Rattle.zir_lex.specs.Tables.{keyword_bytes, symbol_bytes}
+use Rattle.zir_lex.specs.Classes.{is_word_byte, is_string_byte, is_line_byte}
+use Rattle.zir_lex.specs.Tables.{symbol_bytes}
 use Rattle.zir_lex.specs.Spelling.{Piece, White, Comment, Word, piece_bytes, IsPiece, IsWord, IsDecimal, IsHexadecimal}
-use Rattle.zir_lex.specs.Tokens.{IsLongest, IsSound, Stands, IsBadByte, IsBadNumber}
-use Rattle.zir_lex.specs.Fronts.{Kind, OfWhite, OfWord, OfNumber, OfBit, OfString, OfSign, kind_of, IsFront, lexeme_of, begins_hexadecimal}
+use Rattle.zir_lex.specs.Tokens.{IsLongest, IsSound, IsBadByte}
+use Rattle.zir_lex.specs.Fronts.{OfWhite, OfWord, OfNumber, OfBit, OfString, OfSign, kind_of, IsFront, lexeme_of, begins_hexadecimal}
 use Rattle.zir_lex.specs.declared.token.Symbol.{Symbol}
-use Rattle.zir_lex.specs.declared.token.Lexeme.{Lexeme}
 use Rattle.zir_lex.specs.declared.token.Lexeme.TheVariants as lexeme
-use Rattle.zir_lex.proofs.FirstBytes.{piece_kind, begins, keyword_is_word, sign_in_dashes}
+use Rattle.zir_lex.proofs.FirstBytes.{piece_kind, begins, keyword_is_word}
 use Rattle.zir_lex.proofs.Prefixes.{front_within, front_ends}
 
 -- no piece of the kind that the first byte tells has more bytes at the front of the text
@@ -184,11 +183,12 @@ hexadecimal_shape text n bytes after hexadecimal whole =
 decimal_stops : (text : List ℕ) → begins_hexadecimal text ≡ true → prefix_len is_ascii_digit text ≤ 1
 decimal_stops text hexadecimal =
     elim (cases_lt 1 (prefix_len is_ascii_digit text)) [
-      inl more ↦
-        let second : is_ascii_digit (get_or text 1 0) ≡ true = prefix_len_passes is_ascii_digit text 1 0 more in
-        let x : get_or text 1 0 ≡ 120 = eqb-true _ _ (and_parts (eqb (get_or text 1 0) 120) (is_ascii_hexdigit (get_or text 2 0)) (and_parts (eqb (get_or text 0 0) 48) _ hexadecimal).1).0 in
-        absurd (true≢false (sym second ∙ ap is_ascii_digit x))
-    | inr less ↦ less ]
+      | inl more ↦
+          let second : is_ascii_digit (get_or text 1 0) ≡ true = prefix_len_passes is_ascii_digit text 1 0 more in
+          let x : get_or text 1 0 ≡ 120 = eqb-true _ _ (and_parts (eqb (get_or text 1 0) 120) (is_ascii_hexdigit (get_or text 2 0)) (and_parts (eqb (get_or text 0 0) 48) _ hexadecimal).1).0 in
+          absurd (true≢false (sym second ∙ ap is_ascii_digit x))
+      | inr less ↦ less
+    ]
 
 -- a hexadecimal number is as long as its digits go on
 pub within_hexadecimal : (text : List ℕ) → begins_hexadecimal text ≡ true → kind_of (get_or text 0 0) ≡ OfNumber → Within text (prefix_len is_ascii_hexdigit (drop 2 text) + 2)

@@ -1,5 +1,5 @@
 -- What the readers of each kind find at the front of a text.
-use Rattle.std.proofs.Common.{◌≡◌, ◌≢◌, ℕ, ◌+◌, ◌-◌, ◌<◌, ◌≤◌, Bool, true, false, cond, ◌&&◌, ◌||◌, List, [], ◌∷◌, ◌++◌, length, get_or, take, drop, sym, ◌∙◌, ap, refl, subst, inl, inr, ◌⊎◌, arith, IsTrue, Some, None, Ok, Err, Result, suc, eqb, eqb-true, true≢false, nat_eq, slice_range, add-one, take-suc, take-append-drop, length-drop, length-take-le, append_assoc, length-append, one-add}
+use Rattle.std.proofs.Common.{◌≡◌, ◌≢◌, ℕ, ◌+◌, ◌-◌, ◌<◌, ◌≤◌, Bool, true, false, cond, ◌&&◌, List, [], ◌∷◌, ◌++◌, length, get_or, take, drop, sym, ◌∙◌, ap, refl, subst, inl, inr, arith, Some, None, Ok, Err, Result, suc, eqb, eqb-true, true≢false, nat_eq, add-one, take-suc, take-append-drop, length-drop, length-take-le, one-add}
 use Rattle.std.specs.List.{prefix_len, list_all}
 use Rattle.std.specs.List.{starts_with}
 use Rattle.std.proofs.lemmas.Slice.Eq.{starts_is}
@@ -9,9 +9,9 @@ use Rattle.std.proofs.lemmas.List.Sums.{prefix_len-le-length}
 use Rattle.std.proofs.lemmas.List.{take_rest}
 use Rattle.zir_lex.specs.Classes.{is_white, is_letter, is_word_byte, is_string_byte, is_line_byte, number_of}
 use Rattle.zir_lex.specs.Tables.{keyword_bytes, symbol_bytes}
-use Rattle.zir_lex.specs.Spelling.{Piece, White, Comment, Word, piece_bytes, IsPiece, IsWord, IsDecimal, IsHexadecimal}
-use Rattle.zir_lex.specs.Tokens.{IsLongest, IsSound, Stands, IsBadByte, IsBadNumber}
-use Rattle.zir_lex.specs.Fronts.{Kind, OfWhite, OfWord, OfNumber, OfBit, OfString, OfSign, kind_of, IsFront, IsLongestSign, HasNoSign, Reads, ReadsNumber, lexeme_of, begins_hexadecimal}
+use Rattle.zir_lex.specs.Spelling.{White, Comment, Word, piece_bytes, IsPiece, IsWord}
+use Rattle.zir_lex.specs.Tokens.{IsBadByte}
+use Rattle.zir_lex.specs.Fronts.{OfSign, kind_of, IsFront, IsLongestSign, HasNoSign, Reads, ReadsNumber, begins_hexadecimal}
 use Rattle.std.specs.Char.{is_ascii_digit, is_ascii_hexdigit}
 use Rattle.zir_lex.specs.declared.token.Symbol.{Symbol}
 use Rattle.zir_lex.specs.declared.front.Front.{Front}
@@ -65,8 +65,8 @@ bit_front text bit fits quote second =
 pub no_bit : (text : List ℕ) → 0 < length text → get_or text 0 0 ≡ 39 → (2 ≤ length text → get_or text 1 0 ≢ 48) → (2 ≤ length text → get_or text 1 0 ≢ 49) → IsBadByte text
 no_bit text some quote zero one =
     bad_byte_of text some (λ other after spelled whole same.
-      let has : HasBit text (piece_bytes other) = bit_at text (ap kind_of quote) other after spelled whole same in
-      elim has.bit [ inl e ↦ zero has.within e | inr e ↦ one has.within e ])
+    let has : HasBit text (piece_bytes other) = bit_at text (ap kind_of quote) other after spelled whole same in
+    elim has.bit [ inl e ↦ zero has.within e | inr e ↦ one has.within e ])
 
 closing_at : (text : List ℕ) (len : ℕ) → get_or text (len + 1) 0 ≡ get_or (drop 1 text) len 0
 closing_at [] len = refl
@@ -82,8 +82,8 @@ string_front text string len len_is fits quote closing string_is =
 pub no_string : (text : List ℕ) (len : ℕ) → 0 < length text → get_or text 0 0 ≡ 34 → len ≡ prefix_len is_string_byte (drop 1 text) → (len + 2 ≤ length text → get_or text (len + 1) 0 ≢ 34) → IsBadByte text
 no_string text len some quote len_is unclosed =
     bad_byte_of text some (λ other after spelled whole same.
-      let has : HasString text (piece_bytes other) = string_at text (ap kind_of quote) other after spelled whole same in
-      unclosed (omega (arith, has.within)) (rw len_is has.quote))
+    let has : HasString text (piece_bytes other) = string_at text (ap kind_of quote) other after spelled whole same in
+    unclosed (omega (arith, has.within)) (rw len_is has.quote))
 
 -- the same, of the text behind the quote
 pub string_behind : (text string : List ℕ) (len closing : ℕ) → 0 < length text → get_or text 0 0 ≡ 34 → len ≡ prefix_len is_string_byte (take (length text - 1) (drop 1 text)) → len < length (take (length text - 1) (drop 1 text)) → closing ≡ get_or (take (length text - 1) (drop 1 text)) len 0 → closing ≡ 34 → string ≡ take len (take (length text - 1) (drop 1 text)) → IsFront (record { lexeme = Some (lexeme.Text string); len = len + 2 }) text
@@ -113,12 +113,12 @@ comment_in rest len len_is =
     front_of (Comment (take len rest)) (2 + len) (45 ∷ 45 ∷ rest) (omega arith) (omega (arith, prefix_len-le-length is_line_byte rest)) (comment_taken rest len)
     (rw len_is (front_passes is_line_byte rest)) tt
     (within_sign (45 ∷ 45 ∷ rest) (2 + len) refl
-      (λ line after all same.
-        let tails : rest ≡ line ++ after = ap (drop 2) same in
-        let inside : length line ≤ prefix_len is_line_byte (line ++ after) = front_within is_line_byte line after all in
-        let same_len : prefix_len is_line_byte rest ≡ prefix_len is_line_byte (line ++ after) = ap (prefix_len is_line_byte) tails in
-        omega arith)
-      (λ symbol after same. let one : length (symbol_bytes symbol) ≤ 1 = sign_in_dashes symbol after rest (sym same) in omega arith))
+    (λ line after all same.
+    let tails : rest ≡ line ++ after = ap (drop 2) same in
+    let inside : length line ≤ prefix_len is_line_byte (line ++ after) = front_within is_line_byte line after all in
+    let same_len : prefix_len is_line_byte rest ≡ prefix_len is_line_byte (line ++ after) = ap (prefix_len is_line_byte) tails in
+    omega arith)
+    (λ symbol after same. let one : length (symbol_bytes symbol) ≤ 1 = sign_in_dashes symbol after rest (sym same) in omega arith))
 
 pub comment_front : (text rest : List ℕ) (len : ℕ) → text ≡ 45 ∷ 45 ∷ rest → len ≡ prefix_len is_line_byte (drop 2 text) → IsFront (record { lexeme = None; len = 2 + len }) text
 comment_front text rest len dashes len_is = rw dashes (comment_in rest len (len_is ∙ ap (λ l. prefix_len is_line_byte (drop 2 l)) dashes))

@@ -1,8 +1,8 @@
 -- A text that is read piece by piece, from left to right.
-use Rattle.std.proofs.Common.{◌≡◌, ◌≢◌, ℕ, ◌+◌, ◌<◌, ◌≤◌, List, [], ◌∷◌, ◌++◌, length, take, drop, fold, sym, ◌∙◌, ap, refl, subst, arith, append_assoc, append-nil, length-append, take-append-drop, drop_of_length-le, length-take-le}
+use Rattle.std.proofs.Common.{◌≡◌, ℕ, ◌+◌, ◌≤◌, List, [], ◌∷◌, ◌++◌, length, take, drop, sym, ◌∙◌, ap, refl, subst, arith, append_assoc, append-nil, length-append, take-append-drop, drop_of_length-le, length-take-le}
 use Rattle.std.proofs.lemmas.List.{drop-drop}
 use Rattle.std.proofs.lemmas.List.Sums.{fold-append}
-use Rattle.zir_lex.specs.Spelling.{Piece, White, Comment, Word, piece_bytes, IsPiece, text_of}
+use Rattle.zir_lex.specs.Spelling.{Piece, White, Comment, Word, piece_bytes, text_of}
 use Rattle.zir_lex.specs.Places.{place_past, first_place, next_place}
 use Rattle.zir_lex.specs.Tokens.{Stands, AreRead, token_of, tokens_from, IsReadTo, Lexes, IsBadByte, IsBadNumber, BadByteAt, BadNumberAt}
 use Rattle.zir_lex.specs.Fronts.{IsFront, lexeme_of, tokens_at}
@@ -65,7 +65,7 @@ read_on text at tokens place front so_far it =
       offset = omega (arith, so_far.offset, ap length grown, length-append (text_of so_far.pieces) (piece_bytes it.piece));
       tokens_are = (λ i. so_far.tokens_are i ++ tokens_at (so_far.place_is i) (it.lexeme i)) ∙ ap (λ l. tokens_from first_place so_far.pieces ++ l) (token_by_lexeme (place_past first_place (text_of so_far.pieces)) it.piece) ∙ sym (tokens_push first_place so_far.pieces it.piece);
       place_is = ap (λ q. place_past q (take front.len (drop at text))) so_far.place_is ∙ ap (place_past (place_past first_place (text_of so_far.pieces))) (sym it.bytes)
-      ∙ sym (fold-append next_place first_place (text_of so_far.pieces) (piece_bytes it.piece)) ∙ ap (place_past first_place) (sym grown);
+          ∙ sym (fold-append next_place first_place (text_of so_far.pieces) (piece_bytes it.piece)) ∙ ap (place_past first_place) (sym grown);
     }
 
 -- the whole text was read

@@ -1,9 +1,8 @@
 -- A text has one reading: its tokens, or its first fault.
-use Rattle.std.proofs.Common.{◌≡◌, ◌≢◌, ℕ, ◌+◌, ◌<◌, ◌≤◌, ◌^◌, ◌⊎◌, inl, inr, Bool, true, false, cond, List, [], ◌∷◌, ◌++◌, length, get_or, take, drop, Option, Some, None, codes, bytes_eq, if◌then◌else◌, sym, ◌∙◌, ap, refl, subst, subst₂, arith, append_assoc, append-nil, length-append, IsTrue, true≢false}
+use Rattle.std.proofs.Common.{◌≡◌, ℕ, ◌<◌, ◌≤◌, ◌^◌, ◌⊎◌, inl, inr, Bool, true, false, cond, List, [], ◌∷◌, ◌++◌, length, get_or, drop, Option, Some, None, codes, bytes_eq, if◌then◌else◌, sym, ◌∙◌, ap, refl, subst, subst₂, arith, append_assoc, length-append, IsTrue, true≢false}
 use Rattle.std.proofs.lemmas.List.{append_cancel_right}
 use Rattle.std.specs.List.{list_all}
-use Rattle.std.specs.Char.{is_ascii_digit, is_ascii_hexdigit}
-use Rattle.std.proofs.lemmas.Bool.{and_parts}
+use Rattle.std.specs.Char.{is_ascii_digit}
 use Rattle.zir_lex.specs.Classes.{begins_word, number_of}
 use Rattle.zir_lex.specs.Tables.{keyword_bytes, symbol_bytes}
 use Rattle.zir_lex.specs.Spelling.{Piece, White, Comment, Word, piece_bytes, IsPiece, IsDecimal, IsHexadecimal, text_of}
@@ -14,10 +13,9 @@ use Rattle.zir_lex.specs.declared.token.Keyword.{Keyword}
 use Rattle.zir_lex.specs.declared.token.Keyword.TheVariants as keywords
 use Rattle.zir_lex.specs.declared.token.Symbol.{Symbol}
 use Rattle.zir_lex.specs.declared.token.Symbol.TheVariants as symbols
-use Rattle.zir_lex.specs.declared.token.Lexeme.{Lexeme}
 use Rattle.zir_lex.specs.declared.token.Lexeme.TheVariants as lexeme
 use Rattle.zir_lex.specs.declared.token.Token.{Token}
-use Rattle.zir_lex.proofs.FirstBytes.{piece_kind, begins, sign_no_comment, keyword_is_word}
+use Rattle.zir_lex.proofs.FirstBytes.{piece_kind, begins, sign_no_comment}
 use Rattle.zir_lex.proofs.Prefixes.{same_front}
 
 -- the keyword of these bytes

@@ -40,7 +40,9 @@ pub fn string_len(text: &[u8]) -> usize
     ensures value { result ≡ prefix_len is_string_byte text.now }
     ensures within { result ≤ length text.now }
 {
-    text.iter().take_while(|byte| is_string_byte(**byte)).count()
+    text.iter()
+        .take_while(|byte| is_string_byte(**byte))
+        .count()
 }
 
 pub fn line_len(text: &[u8]) -> usize
@@ -61,5 +63,7 @@ pub fn hexadecimal_len(text: &[u8]) -> usize
     ensures value { result ≡ prefix_len is_ascii_hexdigit text.now }
     ensures within { result ≤ length text.now }
 {
-    text.iter().take_while(|byte| byte.is_ascii_hexdigit()).count()
+    text.iter()
+        .take_while(|byte| byte.is_ascii_hexdigit())
+        .count()
 }

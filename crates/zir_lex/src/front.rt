@@ -41,7 +41,10 @@ pub fn read_front(alloc: Global, text: &[u8]) -> Result<Front, FrontError>
 {
     let first = text[0];
     if is_white(first) {
-        return Ok(Front { lexeme: None, len: 1 });
+        return Ok(Front {
+            lexeme: None,
+            len: 1,
+        });
     }
     if is_letter(first) {
         return read_word(alloc, text);

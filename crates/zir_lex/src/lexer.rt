@@ -6,7 +6,7 @@ ghost use Rattle.zir_lex.specs.Tokens.{Lexes, BadByteAt, BadNumberAt, IsRefusal}
 ghost use Rattle.zir_lex.specs.Laws.{HasOneList, HasNoFault, HasOneFault};
 ghost use Rattle.zir_lex.specs.Fronts.{refusal_at, tokens_at};
 
-use crate::front::{read_front, Front, FrontError};
+use crate::front::{Front, FrontError, read_front};
 use crate::places::place_past;
 use crate::token::{Lexeme, Token};
 use std::alloc::Global;
@@ -63,8 +63,7 @@ pub fn one_reading()
     ensures tokens { HasOneList }
     ensures sound { HasNoFault }
     ensures faults { HasOneFault }
-{
-}
+{}
 
 /// The tokens of a text that is short enough, or its first fault.
 fn read_all(alloc: Global, text: &[u8]) -> Result<Vec<Token>, LexError>

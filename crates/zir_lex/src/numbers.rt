@@ -76,7 +76,10 @@ fn number_within(text: &[u8], len: usize, base: u64, digits: &[u8]) -> Result<Fr
         return Err(FrontError::BadNumber);
     }
     match value_of(base, digits) {
-        Some(value) => Ok(Front { lexeme: Some(Lexeme::Int(value)), len }),
+        Some(value) => Ok(Front {
+            lexeme: Some(Lexeme::Int(value)),
+            len,
+        }),
         None => Err(FrontError::BadNumber),
     }
 }

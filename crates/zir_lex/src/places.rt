@@ -26,9 +26,15 @@ pub fn place_past(start: Place, bytes: &[u8]) -> Place
     let mut place = start;
     for byte in bytes {
         place = if *byte == b'\n' {
-            Place { line: place.line + 1, col: 1 }
+            Place {
+                line: place.line + 1,
+                col: 1,
+            }
         } else {
-            Place { line: place.line, col: place.col + 1 }
+            Place {
+                line: place.line,
+                col: place.col + 1,
+            }
         };
     }
     place

@@ -98,7 +98,10 @@ pub fn read_sign(text: &[u8]) -> Result<Front, FrontError>
         return Ok(Front { lexeme: None, len });
     }
     match symbol_at(text) {
-        Some((symbol, len)) => Ok(Front { lexeme: Some(Lexeme::Symbol(symbol)), len }),
+        Some((symbol, len)) => Ok(Front {
+            lexeme: Some(Lexeme::Symbol(symbol)),
+            len,
+        }),
         None => Err(FrontError::BadByte),
     }
 }
@@ -110,8 +113,14 @@ pub fn read_bit(text: &[u8]) -> Result<Front, FrontError>
     ensures { Reads result text.now }
 {
     match text.get(1) {
-        Some(b'0') => Ok(Front { lexeme: Some(Lexeme::Bit(false)), len: 2 }),
-        Some(b'1') => Ok(Front { lexeme: Some(Lexeme::Bit(true)), len: 2 }),
+        Some(b'0') => Ok(Front {
+            lexeme: Some(Lexeme::Bit(false)),
+            len: 2,
+        }),
+        Some(b'1') => Ok(Front {
+            lexeme: Some(Lexeme::Bit(true)),
+            len: 2,
+        }),
         _ => Err(FrontError::BadByte),
     }
 }
@@ -128,7 +137,10 @@ pub fn read_string(alloc: Global, text: &[u8]) -> Result<Front, FrontError>
         return Err(FrontError::BadByte);
     }
     let string = Name::from_slice(alloc, &inside[..len])?;
-    Ok(Front { lexeme: Some(Lexeme::Text(string)), len: len + 2 })
+    Ok(Front {
+        lexeme: Some(Lexeme::Text(string)),
+        len: len + 2,
+    })
 }
 
 /// Whether a `"` stands at the offset.

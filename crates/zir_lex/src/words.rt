@@ -73,10 +73,16 @@ pub fn read_word(alloc: Global, text: &[u8]) -> Result<Front, FrontError>
     let len = word_len(text);
     let word = &text[..len];
     match keyword_of(word) {
-        Some(keyword) => Ok(Front { lexeme: Some(Lexeme::Keyword(keyword)), len }),
+        Some(keyword) => Ok(Front {
+            lexeme: Some(Lexeme::Keyword(keyword)),
+            len,
+        }),
         None => {
             let name = Name::from_slice(alloc, word)?;
-            Ok(Front { lexeme: Some(Lexeme::Name(name)), len })
+            Ok(Front {
+                lexeme: Some(Lexeme::Name(name)),
+                len,
+            })
         }
     }
 }

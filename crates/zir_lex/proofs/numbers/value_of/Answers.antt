@@ -1,5 +1,5 @@
 -- A step of the loop, and a number that is too great with only its first digits.
-use Rattle.std.proofs.Common.{◌≡◌, ◌+◌, ◌*◌, ◌≤◌, ◌<◌, ◌^◌, ℕ, List, length, take, get_or, arith, ap, sym, ◌∙◌}
+use Rattle.std.proofs.Common.{◌≡◌, ◌+◌, ◌*◌, ◌<◌, ℕ, List, length, take, get_or, arith, sym, ◌∙◌}
 use Rattle.std.specs.Char.{digit_value}
 use Rattle.zir_lex.specs.Classes.{number_of}
 use Rattle.zir_lex.proofs.DigitSums.{number_more, number_front}

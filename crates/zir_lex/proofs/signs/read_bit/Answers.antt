@@ -1,5 +1,5 @@
 -- The two bits.
-use Rattle.std.proofs.Common.{arith, ◌≡◌, ◌<◌, length, ltb-true, sym, ◌∙◌, true, false}
+use Rattle.std.proofs.Common.{arith, ◌<◌, length, sym, ◌∙◌, true, false}
 use Rattle.zir_lex.proofs.Readers.{bit_front}
 use Rattle.zir_lex.proofs.signs.read_bit.Goals as goal
 
