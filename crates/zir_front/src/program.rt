@@ -1,0 +1,57 @@
+// Programs: the component between what it reads and what it writes.
+
+ghost use Rattle.std.specs.Prelude.{◌≡◌, ◌+◌, ◌^◌, ◌<◌, length};
+ghost use Rattle.zir_front.specs.Reading.{Gives, bits_at, head_at, program_at};
+
+use crate::chain::{MOST_PARENTHESES, chain};
+use crate::error::FrontError;
+use crate::word::{expect_keyword, expect_sign, name};
+use std::alloc::Global;
+use zir_lex::token::{Keyword, Symbol, Token};
+use zir_tree::tree::{Prog, Ty};
+
+/// A stream of bits: `read [bit]` or `write [bit]`.
+fn bits(tokens: &[Token], word: Keyword) -> Result<&[Token], FrontError>
+    ensures { Gives (λ x. x.now) result (bits_at word tokens.now) }
+{
+    let (_, rest) = expect_keyword(tokens, word)?;
+    let (_, rest) = expect_sign(rest, Symbol::LeftBracket)?;
+    let (_, rest) = expect_keyword(rest, Keyword::Bit)?;
+    let (_, rest) = expect_sign(rest, Symbol::RightBracket)?;
+    Ok(rest)
+}
+
+/// What stands before the component.
+fn head(tokens: &[Token]) -> Result<&[Token], FrontError>
+    ensures { Gives (λ x. x.now) result (head_at tokens.now) }
+{
+    let (_, rest) = expect_keyword(tokens, Keyword::Let)?;
+    let (_, rest) = expect_keyword(rest, Keyword::Comp)?;
+    let (name, _, rest) = name(rest).ok_or(FrontError::Refused)?;
+    if name.as_slice() != b"main".as_slice() {
+        return Err(FrontError::Refused);
+    }
+    let (_, rest) = expect_sign(rest, Symbol::Equal)?;
+    let rest = bits(rest, Keyword::Read)?;
+    let (_, rest) = expect_sign(rest, Symbol::Pipe)?;
+    Ok(rest)
+}
+
+/// The program that these tokens are.
+pub fn parse(alloc: Global, tokens: &[Token]) -> Result<Prog, FrontError>
+    requires { length tokens.now < 2 ^ 32 }
+    ensures { Gives (λ prog. prog) result (program_at tokens.now) }
+{
+    let rest = head(tokens)?;
+    let (part, rest) = chain(alloc, MOST_PARENTHESES, 0, rest)?;
+    let (_, rest) = expect_sign(rest, Symbol::Pipe)?;
+    let rest = bits(rest, Keyword::Write)?;
+    if !rest.is_empty() {
+        return Err(FrontError::Refused);
+    }
+    Ok(Prog {
+        input: Ty::Bit,
+        main: part.what,
+        output: Ty::Bit,
+    })
+}
