@@ -126,6 +126,11 @@ unfoldable pub binding_at : ℕ → List Token → Option (Turn × List Token)
 binding_at last ts = name_at ts >>= λ x. sign_at symbol.LeftArrow x.2 >>= λ y. keyword_at keyword.Take y.1 >>= λ z. sign_at symbol.Semicolon z.1 >>= λ w.
     Some (More (record { bound = Some (record { name = x.0; id = last + 1; at = x.1 }); what = Take z.0 }), w.1)
 
+-- the number of the last binding after a member, where it was this one before
+abbrev pub turn_last : ℕ → Turn → ℕ
+turn_last last (More m) = last_after last m.bound
+turn_last last (Last m unit) = last
+
 -- a member and the sign after it
 unfoldable pub turn_at : List Ident → ℕ → List Token → Option (Turn × List Token)
 turn_at scope last ts =

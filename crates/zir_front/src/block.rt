@@ -1,13 +1,13 @@
 // Blocks: members with what they bind, and the last one.
 
-ghost use Rattle.std.specs.Prelude.{◌≡◌, ◌+◌, ◌++◌, ◌^◌, ◌<◌, ◌≤◌, length, IfOk, OnOk};
+ghost use Rattle.std.specs.Prelude.{◌≡◌, ℕ, ◌+◌, ◌++◌, ◌^◌, ◌<◌, ◌≤◌, length, IfOk, OnOk};
 ghost use Rattle.zir_front.specs.Grammar.{names_of, last_after};
-ghost use Rattle.zir_front.specs.Reading.{Gives, emit_at, return_at, binding_at, turn_at, block_at};
+ghost use Rattle.zir_front.specs.Reading.{Gives, turn_last, emit_at, return_at, binding_at, turn_at, block_at};
 
 use crate::error::FrontError;
 use crate::expression::expression;
 use crate::part::{Braced, Turn};
-use crate::word::{expect_keyword, expect_sign, keyword, name, sign};
+use crate::word::{expect_keyword, expect_name, expect_sign, keyword, sign};
 use sqlite_items::Items;
 use std::alloc::Global;
 use zir_lex::token::{Keyword, Symbol, Token};
@@ -16,13 +16,16 @@ use zir_tree::place::Place;
 use zir_tree::tree::{Comp, Expr, Ident, Member};
 
 /// What follows `emit`.
+#[tactic(auto, unfolding(crate::specs::Reading::emit_at))]
 fn emit<'a>(
     alloc: Global,
     scope: &[Ident],
     at: Place,
     tokens: &'a [Token],
 ) -> Result<(Turn, &'a [Token]), FrontError>
-    ensures { Gives (λ x. (x.0, x.1.now)) result (emit_at scope.now at tokens.now) }
+    ensures read { Gives (λ x. (x.0, x.1.now)) result (emit_at scope.now at tokens.now) }
+    ensures rest { IfOk result (λ x. length x.1.now < length tokens.now) }
+    ensures last { IfOk result (λ x. (k : ℕ) → turn_last k x.0 ≡ k) }
 {
     let (value, rest) = expression(alloc, scope, tokens)?;
     let what = Comp::Emit(value, at);
@@ -35,13 +38,16 @@ fn emit<'a>(
 }
 
 /// What follows `return`.
+#[tactic(auto, unfolding(crate::specs::Reading::return_at))]
 fn give_back<'a>(
     alloc: Global,
     scope: &[Ident],
     at: Place,
     tokens: &'a [Token],
 ) -> Result<(Turn, &'a [Token]), FrontError>
-    ensures { Gives (λ x. (x.0, x.1.now)) result (return_at scope.now at tokens.now) }
+    ensures read { Gives (λ x. (x.0, x.1.now)) result (return_at scope.now at tokens.now) }
+    ensures rest { IfOk result (λ x. length x.1.now < length tokens.now) }
+    ensures last { IfOk result (λ x. (k : ℕ) → turn_last k x.0 ≡ k) }
 {
     if let Some((here, rest)) = sign(tokens, Symbol::LeftParenthesis) {
         let (_, rest) = expect_sign(rest, Symbol::RightParenthesis)?;
@@ -56,15 +62,17 @@ fn give_back<'a>(
 }
 
 /// A name that is bound to the next element.
+#[tactic(auto, unfolding(crate::specs::Reading::binding_at))]
 fn binding(
     alloc: Global,
     last: u32,
     tokens: &[Token],
 ) -> Result<(Turn, &[Token]), FrontError>
     requires { last + length tokens.now < 2 ^ 32 }
-    ensures { Gives (λ x. (x.0, x.1.now)) result (binding_at last tokens.now) }
+    ensures read { Gives (λ x. (x.0, x.1.now)) result (binding_at last tokens.now) }
+    ensures few { IfOk result (λ x. turn_last last x.0 + length x.1.now < last + length tokens.now) }
 {
-    let (name, at, rest) = name(tokens).ok_or(FrontError::Refused)?;
+    let (name, at, rest) = expect_name(tokens)?;
     let (_, rest) = expect_sign(rest, Symbol::LeftArrow)?;
     let (take, rest) = expect_keyword(rest, Keyword::Take)?;
     let (_, rest) = expect_sign(rest, Symbol::Semicolon)?;
@@ -76,6 +84,7 @@ fn binding(
 }
 
 /// The next member of a block, and the sign after it.
+#[tactic(auto, unfolding(crate::specs::Reading::turn_at))]
 fn turn<'a>(
     alloc: Global,
     scope: &[Ident],
@@ -83,7 +92,8 @@ fn turn<'a>(
     tokens: &'a [Token],
 ) -> Result<(Turn, &'a [Token]), FrontError>
     requires { last + length tokens.now < 2 ^ 32 }
-    ensures { Gives (λ x. (x.0, x.1.now)) result (turn_at scope.now last tokens.now) }
+    ensures read { Gives (λ x. (x.0, x.1.now)) result (turn_at scope.now last tokens.now) }
+    ensures few { IfOk result (λ x. turn_last last x.0 + length x.1.now < last + length tokens.now) }
 {
     if let Some((at, rest)) = keyword(tokens, Keyword::Take) {
         let (_, rest) = expect_sign(rest, Symbol::Semicolon)?;
@@ -121,13 +131,15 @@ fn enter(
 }
 
 /// A block at the front, with the number of the last binding before it.
+#[tactic(auto, unfolding(crate::specs::Reading::block_at, crate::specs::Reading::members_from))]
 pub fn block(
     alloc: Global,
     last: u32,
     tokens: &[Token],
 ) -> Result<(Braced, &[Token]), FrontError>
     requires { last + length tokens.now < 2 ^ 32 }
-    ensures { Gives (λ x. (x.0, x.1.now)) result (block_at last tokens.now) }
+    ensures read { Gives (λ x. (x.0, x.1.now)) result (block_at last tokens.now) }
+    ensures few { IfOk result (λ x. x.0.last + length x.1.now < last + length tokens.now) }
 {
     let (at, after) = expect_sign(tokens, Symbol::LeftBrace)?;
     let mut members = Items::new(alloc);

@@ -1,6 +1,6 @@
 // Components: blocks, `repeat`, parentheses, and `>>>` between them.
 
-ghost use Rattle.std.specs.Prelude.{◌≡◌, ◌+◌, ◌^◌, ◌<◌, length};
+ghost use Rattle.std.specs.Prelude.{◌≡◌, ◌+◌, ◌^◌, ◌<◌, length, IfOk, IfSome};
 ghost use Rattle.zir_front.specs.Grammar.{joint};
 ghost use Rattle.zir_front.specs.Reading.{Finds, Gives, pipe_at, repeat_at, joined, atom_in, chain_in};
 
@@ -32,8 +32,10 @@ fn kind_of(left: Kind, right: Kind) -> Option<Kind>
 }
 
 /// A `>>>` at the front that no `write` follows.
+#[tactic(auto, unfolding(crate::specs::Reading::pipe_at))]
 fn pipe(tokens: &[Token]) -> Option<(Place, &[Token])>
-    ensures { Finds (λ x. (x.0, x.1.now)) result (pipe_at tokens.now) }
+    ensures found { Finds (λ x. (x.0, x.1.now)) result (pipe_at tokens.now) }
+    ensures rest { IfSome result (λ x. length x.1.now < length tokens.now) }
 {
     let (at, rest) = sign(tokens, Symbol::Pipe)?;
     match keyword(rest, Keyword::Write) {
@@ -43,8 +45,10 @@ fn pipe(tokens: &[Token]) -> Option<(Place, &[Token])>
 }
 
 /// Two components with `>>>` between them.
+#[tactic(auto, unfolding(crate::specs::Reading::joined))]
 fn join(alloc: Global, left: Part, right: Part, at: Place) -> Result<Part, FrontError>
-    ensures { Gives (λ part. part) result (joined left right at) }
+    ensures read { Gives (λ part. part) result (joined left right at) }
+    ensures last { IfOk result (λ part. part.last ≡ right.last) }
 {
     let kind = kind_of(left.kind, right.kind).ok_or(FrontError::Refused)?;
     let last = right.last;
@@ -53,6 +57,7 @@ fn join(alloc: Global, left: Part, right: Part, at: Place) -> Result<Part, Front
 }
 
 /// What follows `repeat`.
+#[tactic(auto, unfolding(crate::specs::Reading::repeat_at))]
 fn repeat(
     alloc: Global,
     last: u32,
@@ -60,7 +65,8 @@ fn repeat(
     tokens: &[Token],
 ) -> Result<(Part, &[Token]), FrontError>
     requires { last + length tokens.now < 2 ^ 32 }
-    ensures { Gives (λ x. (x.0, x.1.now)) result (repeat_at last at tokens.now) }
+    ensures read { Gives (λ x. (x.0, x.1.now)) result (repeat_at last at tokens.now) }
+    ensures few { IfOk result (λ x. x.0.last + length x.1.now < last + length tokens.now) }
 {
     let (body, rest) = block(alloc, last, tokens)?;
     if !body.unit {
@@ -74,6 +80,7 @@ fn repeat(
 
 /// A block, `repeat` with its block, or a component in parentheses.
 #[cycle(chain)]
+#[tactic(auto, unfolding(crate::specs::Reading::atom_in, crate::specs::Reading::atom_at, crate::specs::Reading::chain_in))]
 fn atom(
     alloc: Global,
     depth: usize,
@@ -81,7 +88,8 @@ fn atom(
     tokens: &[Token],
 ) -> Result<(Part, &[Token]), FrontError>
     requires { last + length tokens.now < 2 ^ 32 }
-    ensures { Gives (λ x. (x.0, x.1.now)) result (atom_in depth last tokens.now) }
+    ensures read { Gives (λ x. (x.0, x.1.now)) result (atom_in depth last tokens.now) }
+    ensures few { IfOk result (λ x. x.0.last + length x.1.now < last + length tokens.now) }
 {
     if let Some((at, rest)) = keyword(tokens, Keyword::Repeat) {
         return repeat(alloc, last, at, rest);
@@ -103,6 +111,7 @@ fn atom(
 
 /// A component at the front that may have so many parentheses around its parts, with the number of the last binding before it.
 #[cycle(chain)]
+#[tactic(auto, unfolding(crate::specs::Reading::chain_in, crate::specs::Reading::main_at, crate::specs::Reading::chain_at, crate::specs::Reading::chain_from, crate::specs::Reading::atom_in))]
 pub fn chain(
     alloc: Global,
     depth: usize,
@@ -110,7 +119,8 @@ pub fn chain(
     tokens: &[Token],
 ) -> Result<(Part, &[Token]), FrontError>
     requires { last + length tokens.now < 2 ^ 32 }
-    ensures { Gives (λ x. (x.0, x.1.now)) result (chain_in depth last tokens.now) }
+    ensures read { Gives (λ x. (x.0, x.1.now)) result (chain_in depth last tokens.now) }
+    ensures few { IfOk result (λ x. x.0.last + length x.1.now < last + length tokens.now) }
 {
     let (first, after) = atom(alloc, depth, last, tokens)?;
     let mut left = first;

@@ -1,6 +1,6 @@
 // Expressions: bound names and bits with `^` between them.
 
-ghost use Rattle.std.specs.Prelude.{◌≡◌, Some};
+ghost use Rattle.std.specs.Prelude.{◌≡◌, ◌<◌, length, IfOk};
 ghost use Rattle.zir_front.specs.Grammar.{number_of};
 ghost use Rattle.zir_front.specs.Reading.{Finds, Gives, primary_at, operands_from, expr_at};
 
@@ -28,12 +28,14 @@ fn number(scope: &[Ident], name: &Name) -> Option<u32>
     found
 }
 
+#[tactic(auto, unfolding(crate::specs::Reading::primary_at))]
 fn primary<'a>(
     alloc: Global,
     scope: &[Ident],
     tokens: &'a [Token],
 ) -> Result<(Expr, &'a [Token]), FrontError>
-    ensures { Gives (λ x. (x.0, x.1.now)) result (primary_at scope.now tokens.now) }
+    ensures read { Gives (λ x. (x.0, x.1.now)) result (primary_at scope.now tokens.now) }
+    ensures rest { IfOk result (λ x. length x.1.now < length tokens.now) }
 {
     match tokens {
         [token, rest @ ..] => match &token.lexeme {
@@ -51,12 +53,14 @@ fn primary<'a>(
 }
 
 /// An expression at the front, with the names that are bound there.
+#[tactic(auto, unfolding(crate::specs::Reading::expr_at, crate::specs::Reading::operands_from))]
 pub fn expression<'a>(
     alloc: Global,
     scope: &[Ident],
     tokens: &'a [Token],
 ) -> Result<(Expr, &'a [Token]), FrontError>
-    ensures { Gives (λ x. (x.0, x.1.now)) result (expr_at scope.now tokens.now) }
+    ensures read { Gives (λ x. (x.0, x.1.now)) result (expr_at scope.now tokens.now) }
+    ensures rest { IfOk result (λ x. length x.1.now < length tokens.now) }
 {
     let (first, after) = primary(alloc, scope, tokens)?;
     let mut left = first;

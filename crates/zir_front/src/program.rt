@@ -1,18 +1,20 @@
 // Programs: the component between what it reads and what it writes.
 
-ghost use Rattle.std.specs.Prelude.{◌≡◌, ◌+◌, ◌^◌, ◌<◌, length};
+ghost use Rattle.std.specs.Prelude.{◌≡◌, ◌+◌, ◌^◌, ◌<◌, length, IfOk};
 ghost use Rattle.zir_front.specs.Reading.{Gives, bits_at, head_at, program_at};
 
 use crate::chain::{MOST_PARENTHESES, chain};
 use crate::error::FrontError;
-use crate::word::{expect_keyword, expect_sign, name};
+use crate::word::{expect_keyword, expect_name, expect_sign};
 use std::alloc::Global;
 use zir_lex::token::{Keyword, Symbol, Token};
 use zir_tree::tree::{Prog, Ty};
 
 /// A stream of bits: `read [bit]` or `write [bit]`.
+#[tactic(auto, unfolding(crate::specs::Reading::bits_at))]
 fn bits(tokens: &[Token], word: Keyword) -> Result<&[Token], FrontError>
-    ensures { Gives (λ x. x.now) result (bits_at word tokens.now) }
+    ensures read { Gives (λ x. x.now) result (bits_at word tokens.now) }
+    ensures rest { IfOk result (λ x. length x.now < length tokens.now) }
 {
     let (_, rest) = expect_keyword(tokens, word)?;
     let (_, rest) = expect_sign(rest, Symbol::LeftBracket)?;
@@ -22,12 +24,14 @@ fn bits(tokens: &[Token], word: Keyword) -> Result<&[Token], FrontError>
 }
 
 /// What stands before the component.
+#[tactic(auto, unfolding(crate::specs::Reading::head_at))]
 fn head(tokens: &[Token]) -> Result<&[Token], FrontError>
-    ensures { Gives (λ x. x.now) result (head_at tokens.now) }
+    ensures read { Gives (λ x. x.now) result (head_at tokens.now) }
+    ensures rest { IfOk result (λ x. length x.now < length tokens.now) }
 {
     let (_, rest) = expect_keyword(tokens, Keyword::Let)?;
     let (_, rest) = expect_keyword(rest, Keyword::Comp)?;
-    let (name, _, rest) = name(rest).ok_or(FrontError::Refused)?;
+    let (name, _, rest) = expect_name(rest)?;
     if name.as_slice() != b"main".as_slice() {
         return Err(FrontError::Refused);
     }
@@ -38,6 +42,7 @@ fn head(tokens: &[Token]) -> Result<&[Token], FrontError>
 }
 
 /// The program that these tokens are.
+#[tactic(auto, unfolding(crate::specs::Reading::program_at, crate::specs::Reading::chain_in))]
 pub fn parse(alloc: Global, tokens: &[Token]) -> Result<Prog, FrontError>
     requires { length tokens.now < 2 ^ 32 }
     ensures { Gives (λ prog. prog) result (program_at tokens.now) }
