@@ -9,7 +9,7 @@ use crate::expression::expression;
 use crate::part::{Braced, Turn};
 use crate::word::{expect_keyword, expect_name, expect_sign, keyword, sign};
 use sqlite_items::Items;
-use std::alloc::Global;
+use std::alloc::{AllocError, Global};
 use zir_lex::token::{Keyword, Symbol, Token};
 use zir_tree::name::Name;
 use zir_tree::place::Place;
@@ -115,7 +115,7 @@ fn enter(
     scope: &mut Vec<Ident>,
     last: u32,
     bound: &Option<Ident>,
-) -> Result<u32, FrontError>
+) -> Result<u32, AllocError>
     ensures ok { IfOk result (λ last'. last' ≡ last_after last bound.now) }
     ensures scope { OnOk result (scope.new.items ≡ scope.old.items ++ names_of bound.now) }
 {
