@@ -87,11 +87,11 @@ pub data IsMember (scope : List Ident) (last : ℕ) (m : Member) (ts rest : List
 
 -- the last member, and whether the value of its block is `()`
 pub data IsLast (scope : List Ident) (unit : Bool) (m : Member) (ts rest : List Token) : Type 0 where
-  emits : (e : Expr) (at : Place) (mid : List Token) → unit ≡ true → m ≡ record { bound = None; what = Emit e at }
+  emits_last : (e : Expr) (at : Place) (mid : List Token) → unit ≡ true → m ≡ record { bound = None; what = Emit e at }
       → ts ≡ word keyword.Emit at ∷ mid → IsExpr scope e mid rest → IsLast scope unit m ts rest
   returns_unit : (at here close : Place) → unit ≡ true → m ≡ record { bound = None; what = Return (UnitValue here) at }
       → ts ≡ word keyword.Return at ∷ sign symbol.LeftParenthesis here ∷ sign symbol.RightParenthesis close ∷ rest → IsLast scope unit m ts rest
-  returns : (e : Expr) (at : Place) (mid : List Token) → unit ≡ false → m ≡ record { bound = None; what = Return e at }
+  returns_value : (e : Expr) (at : Place) (mid : List Token) → unit ≡ false → m ≡ record { bound = None; what = Return e at }
       → ts ≡ word keyword.Return at ∷ mid → IsExpr scope e mid rest → IsLast scope unit m ts rest
 
 -- members with `;` after each, the last one and `}`; each name is in scope behind its member
