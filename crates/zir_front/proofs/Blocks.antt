@@ -111,3 +111,83 @@ last_read scope last unit m ts rest close (emits_last e at mid is_unit is stands
 last_read scope last unit m ts rest close (returns_unit at here shut is_unit is stands) = rw (stands, is, is_unit) refl
 last_read scope last unit m ts rest close (returns_value e at mid is_unit is stands value) =
     rw (stands, is, is_unit, expr_begins 8 scope e mid (sign symbol.RightBrace close ∷ rest) symbol.LeftParenthesis value, expr_read scope e mid (sign symbol.RightBrace close ∷ rest) value refl) refl
+
+-- a member in front of a body
+front_of_body : (scope : List Ident) (last : ℕ) (m : Member) (body : List Member) (unit : Bool) (end : ℕ) (ts mid rest : List Token) (stop : Place)
+    → IsMember scope last m ts (sign symbol.Semicolon stop ∷ mid) → IsBody (scope ++ names_of m.bound) (last_after last m.bound) body unit end mid rest → IsBody scope last (m ∷ body) unit end ts rest
+front_of_body scope last m [] unit end ts mid rest stop first others = absurd others
+front_of_body scope last m (n ∷ ms) unit end ts mid rest stop first others = (stop, mid, first, others)
+
+-- what members that were read before and a body make
+abbrev Reached : Place → List Member → List Ident → ℕ → List Token → Braced × List Token → Type 0
+Reached at members scope last ts x = (body : List Member) × (x.0.what ≡ Block (members ++ body) at) × IsBody scope last body x.0.unit x.0.last ts x.1
+
+after_turn_sound : (n : ℕ) (at : Place) (members : List Member) (scope : List Ident) (last : ℕ) (ts rest : List Token) (t : Turn) (x : Braced × List Token)
+    → ((members : List Member) (scope : List Ident) (last : ℕ) (ts : List Token) → members_from n at members scope last ts ≡ Some x → Reached at members scope last ts x)
+    → IsTurn scope last t ts rest → after_turn at (members_from n at) members scope last rest t ≡ Some x → Reached at members scope last ts x
+after_turn_sound n at members scope last ts rest (More m) x others first e =
+    let r = others (members ++ m ∷ []) (scope ++ names_of m.bound) (last_after last m.bound) rest e in
+    (m ∷ r.0, r.1 ∙ ap (λ (ms : List Member). Block ms at) (append_assoc members (m ∷ []) r.0), front_of_body scope last m r.0 x.0.unit x.0.last ts rest x.1 first.0 first.1 r.2)
+after_turn_sound n at members scope last ts rest (Last m unit) x others first e =
+    let y : Braced × List Token = (record { what = Block (members ++ m ∷ []) at; unit = unit; last = last }, rest) in
+    subst (λ (z : Braced × List Token). Reached at members scope last ts z) (some_is y x e) (m ∷ [], refl, (first.0, first.1, refl))
+
+members_sound : (n : ℕ) (at : Place) (members : List Member) (scope : List Ident) (last : ℕ) (ts : List Token) (x : Braced × List Token) → members_from n at members scope last ts ≡ Some x → Reached at members scope last ts x
+unfolding members_from
+members_sound zero at members scope last ts x e = none_is x e
+members_sound (suc n) at members scope last ts x e =
+    let b = bind_some (turn_at scope last ts) (λ y. after_turn at (members_from n at) members scope last y.1 y.0) x e in
+    after_turn_sound n at members scope last ts b.0.1 b.0.0 x (λ ms s l us. members_sound n at ms s l us x) (turn_sound scope last ts b.0 b.1) b.2
+
+-- what is read as a block is one
+pub block_sound : (last : ℕ) (ts : List Token) (x : Braced × List Token) → block_at last ts ≡ Some x → IsBlock last x.0 ts x.1
+unfolding block_at
+block_sound last ts x e =
+    let b = bind_some (sign_at symbol.LeftBrace ts) (λ y. members_from (length ts) y.0 [] [] last y.1) x e in
+    let r = members_sound (length ts) b.0.0 [] [] last b.0.1 x b.2 in
+    record { members = r.0; at = b.0.0; mid = b.0.1; is = r.1; brace = sign_stands symbol.LeftBrace ts b.0 b.1; body = r.2 }
+
+-- a body that stands there is read
+body_read : (body : List Member) (n : ℕ) (at : Place) (members : List Member) (scope : List Ident) (last : ℕ) (unit : Bool) (end : ℕ) (ts rest : List Token) → length body ≤ n
+    → IsBody scope last body unit end ts rest → members_from n at members scope last ts ≡ Some (record { what = Block (members ++ body) at; unit = unit; last = end }, rest)
+unfolding members_from
+body_read [] n at members scope last unit end ts rest le h = absurd h
+body_read (m ∷ []) zero at members scope last unit end ts rest le h = absurd (omega arith)
+body_read (m ∷ []) (suc n) at members scope last unit end ts rest le h =
+    rw (last_read scope last unit m ts rest h.0 h.1) (ap (λ (k : ℕ). Some (record { what = Block (members ++ m ∷ []) at; unit = unit; last = k }, rest)) (sym h.2))
+body_read (m ∷ k ∷ ms) zero at members scope last unit end ts rest le h = absurd (omega arith)
+body_read (m ∷ k ∷ ms) (suc n) at members scope last unit end ts rest le h =
+    rw (member_read scope last m ts h.1 h.0 h.2)
+    (body_read (k ∷ ms) n at (members ++ m ∷ []) (scope ++ names_of m.bound) (last_after last m.bound) unit end h.1 rest (omega arith) h.3
+    ∙ ap (λ (all : List Member). Some (record { what = Block all at; unit = unit; last = end }, rest)) (append_assoc members (m ∷ []) (k ∷ ms)))
+
+member_short : (scope : List Ident) (last : ℕ) (m : Member) (ts rest : List Token) → IsMember scope last m ts rest → length rest < length ts
+member_short scope last m ts rest (binds x arrow at id is stands) = omega (arith, ap length stands)
+member_short scope last m ts rest (takes at is stands) = omega (arith, ap length stands)
+member_short scope last m ts rest (emits e at mid is stands value) = omega (arith, ap length stands, operands_short 8 scope e mid rest value)
+
+last_short : (scope : List Ident) (unit : Bool) (m : Member) (ts rest : List Token) → IsLast scope unit m ts rest → length rest < length ts
+last_short scope unit m ts rest (emits_last e at mid is_unit is stands value) = omega (arith, ap length stands, operands_short 8 scope e mid rest value)
+last_short scope unit m ts rest (returns_unit at here shut is_unit is stands) = omega (arith, ap length stands)
+last_short scope unit m ts rest (returns_value e at mid is_unit is stands value) = omega (arith, ap length stands, operands_short 8 scope e mid rest value)
+
+-- a body has as many tokens as members at least
+body_long : (body : List Member) (scope : List Ident) (last : ℕ) (unit : Bool) (end : ℕ) (ts rest : List Token) → IsBody scope last body unit end ts rest → length body ≤ length ts
+body_long [] scope last unit end ts rest h = absurd h
+body_long (m ∷ []) scope last unit end ts rest h = omega (arith, last_short scope unit m ts (sign symbol.RightBrace h.0 ∷ rest) h.1)
+body_long (m ∷ k ∷ ms) scope last unit end ts rest h =
+    omega (arith, member_short scope last m ts (sign symbol.Semicolon h.0 ∷ h.1) h.2, body_long (k ∷ ms) (scope ++ names_of m.bound) (last_after last m.bound) unit end h.1 rest h.3)
+
+-- a block that stands there is read
+pub block_read : (last : ℕ) (b : Braced) (ts rest : List Token) → IsBlock last b ts rest → block_at last ts ≡ Some (b, rest)
+unfolding block_at
+block_read last b ts rest h =
+    let long = body_long h.members [] last b.unit b.last h.mid rest h.body in
+    let brace : sign_at symbol.LeftBrace ts ≡ Some (h.at, h.mid) = ap (sign_at symbol.LeftBrace) h.brace ∙ sign_read symbol.LeftBrace h.at h.mid in
+    rw brace (body_read h.members (length ts) h.at [] [] last b.unit b.last h.mid rest (omega (arith, ap length h.brace)) h.body
+    ∙ ap (λ (c : Comp). Some (record { what = c; unit = b.unit; last = b.last }, rest)) (sym h.is))
+
+-- a block begins with its brace
+pub block_begins : (last : ℕ) (b : Braced) (ts rest : List Token) → IsBlock last b ts rest → (keyword_at keyword.Repeat ts ≡ None) × (sign_at symbol.LeftParenthesis ts ≡ None)
+unfolding keyword_at sign_at
+block_begins last b ts rest h = (rw h.brace refl, rw h.brace refl)
