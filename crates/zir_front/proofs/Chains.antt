@@ -142,8 +142,8 @@ repeat_sound last at ts x e =
 atom_sound : (Inner : Form) (inner : Reader) → Sound Inner inner → Sound (IsAtom Inner) (atom_at inner)
 unfolding atom_at
 atom_sound Inner inner sound last ts x e =
-    let a_block = block_at last ts >>= λ x. Some (record { what = x.0.what; kind = Computer; last = x.0.last }, x.1) in
-    let in_parentheses = if_found (sign_at symbol.LeftParenthesis ts) (λ x. inner last x.1 >>= λ y. sign_at symbol.RightParenthesis y.1 >>= λ z. Some (y.0, z.1)) a_block in
+    let a_block : Option (Part × List Token) = block_at last ts >>= λ x. Some (record { what = x.0.what; kind = Computer; last = x.0.last }, x.1) in
+    let in_parentheses : Option (Part × List Token) = if_found (sign_at symbol.LeftParenthesis ts) (λ x. inner last x.1 >>= λ y. sign_at symbol.RightParenthesis y.1 >>= λ z. Some (y.0, z.1)) a_block in
     elim (found_or (keyword_at keyword.Repeat ts) (λ x. repeat_at last x.0 x.1) in_parentheses x e) [
       | inl y ↦ let r = repeat_sound last y.0.0 y.0.1 x y.2 in repeats r.0 y.0.0 y.0.1 r.1 r.2 (keyword_stands keyword.Repeat ts y.0 y.1) r.3
       | inr y ↦ elim (found_or (sign_at symbol.LeftParenthesis ts) (λ x. inner last x.1 >>= λ y. sign_at symbol.RightParenthesis y.1 >>= λ z. Some (y.0, z.1)) a_block x y.1) [
