@@ -48,8 +48,6 @@ bits_read w a b c d rest = rw (keyword_read w a (sign symbol.LeftBracket b ∷ w
 name_is : (name : List ℕ) → bytes_eq name (codes "main") ≡ true → name ≡ codes "main"
 name_is name e = (bytes_eq-Decides name (codes "main")).0 e
 
-main_named : bytes_eq (codes "main") (codes "main") ≡ true
-main_named = (bytes_eq-Decides (codes "main") (codes "main")).1 refl
 
 -- the places of the tokens before the component
 record Places : Type 0 where
@@ -97,15 +95,58 @@ head_read p rest =
     rw (keyword_read keyword.Let p.p1 (word keyword.Comp p.p2 ∷ token (lexeme.Name (codes "main")) p.p3 ∷ sign symbol.Equal p.p4 ∷ stream_tokens keyword.Read p.p5 p.p6 p.p7 p.p8 (sign symbol.Pipe p.p9 ∷ rest)),
         keyword_read keyword.Comp p.p2 (token (lexeme.Name (codes "main")) p.p3 ∷ sign symbol.Equal p.p4 ∷ stream_tokens keyword.Read p.p5 p.p6 p.p7 p.p8 (sign symbol.Pipe p.p9 ∷ rest)),
         name_read (codes "main") p.p3 (sign symbol.Equal p.p4 ∷ stream_tokens keyword.Read p.p5 p.p6 p.p7 p.p8 (sign symbol.Pipe p.p9 ∷ rest)),
-        main_named,
         sign_read symbol.Equal p.p4 (stream_tokens keyword.Read p.p5 p.p6 p.p7 p.p8 (sign symbol.Pipe p.p9 ∷ rest)),
         bits_read keyword.Read p.p5 p.p6 p.p7 p.p8 (sign symbol.Pipe p.p9 ∷ rest),
         sign_read symbol.Pipe p.p9 rest) refl
 
+-- the first of tokens that are these lexemes
+are_cons : (w : Lexeme) (ws : List Lexeme) (ts : List Token) → Are (w ∷ ws) ts → (at : Place) × (more : List Token) × (ts ≡ token w at ∷ more) × Are ws more
+are_cons w ws [] h = absurd h
+are_cons w ws (t ∷ ts) h = (t.at, ts, ap (λ (v : Lexeme). token v t.at ∷ ts) h.0, h.1)
+
+are_nil : (ts : List Token) → Are [] ts → ts ≡ []
+are_nil [] h = refl
+are_nil (t ∷ ts) h = absurd h
+
+-- tokens that are `read [bit]` or `write [bit]` and what follows
+stream_are : (w : Keyword) (ws : List Lexeme) (ts : List Token) → Are (lexeme.Keyword w ∷ lexeme.Symbol symbol.LeftBracket ∷ lexeme.Keyword keyword.Bit ∷ lexeme.Symbol symbol.RightBracket ∷ ws) ts
+    → (a b c d : Place) × (more : List Token) × (ts ≡ stream_tokens w a b c d more) × Are ws more
+stream_are w ws ts h =
+    let a = are_cons (lexeme.Keyword w) (lexeme.Symbol symbol.LeftBracket ∷ lexeme.Keyword keyword.Bit ∷ lexeme.Symbol symbol.RightBracket ∷ ws) ts h in
+    let b = are_cons (lexeme.Symbol symbol.LeftBracket) (lexeme.Keyword keyword.Bit ∷ lexeme.Symbol symbol.RightBracket ∷ ws) a.1 a.3 in
+    let c = are_cons (lexeme.Keyword keyword.Bit) (lexeme.Symbol symbol.RightBracket ∷ ws) b.1 b.3 in
+    let d = are_cons (lexeme.Symbol symbol.RightBracket) ws c.1 c.3 in
+    (a.0, b.0, c.0, d.0, d.1, a.2 ∙ ap (λ (v : List Token). word w a.0 ∷ v) (b.2 ∙ ap (λ (v : List Token). sign symbol.LeftBracket b.0 ∷ v) (c.2 ∙ ap (λ (v : List Token). word keyword.Bit c.0 ∷ v) d.2)), d.3)
+
 -- the places of tokens that have the lexemes before the component
 head_are : (ts : List Token) → Are head ts → (p : Places) × (ts ≡ head_tokens p)
-head_are (t1 ∷ t2 ∷ t3 ∷ t4 ∷ t5 ∷ t6 ∷ t7 ∷ t8 ∷ t9 ∷ []) h = ?
-head_are ts h = ?
+head_are ts h =
+    let after_read = lexeme.Symbol symbol.Pipe ∷ [] in
+    let reading = lexeme.Keyword keyword.Read ∷ lexeme.Symbol symbol.LeftBracket ∷ lexeme.Keyword keyword.Bit ∷ lexeme.Symbol symbol.RightBracket ∷ after_read in
+    let a = are_cons (lexeme.Keyword keyword.Let) (lexeme.Keyword keyword.Comp ∷ lexeme.Name (codes "main") ∷ lexeme.Symbol symbol.Equal ∷ reading) ts h in
+    let b = are_cons (lexeme.Keyword keyword.Comp) (lexeme.Name (codes "main") ∷ lexeme.Symbol symbol.Equal ∷ reading) a.1 a.3 in
+    let c = are_cons (lexeme.Name (codes "main")) (lexeme.Symbol symbol.Equal ∷ reading) b.1 b.3 in
+    let d = are_cons (lexeme.Symbol symbol.Equal) reading c.1 c.3 in
+    let f = stream_are keyword.Read after_read d.1 d.3 in
+    let g = are_cons (lexeme.Symbol symbol.Pipe) [] f.4 f.6 in
+    (record { p1 = a.0; p2 = b.0; p3 = c.0; p4 = d.0; p5 = f.0; p6 = f.1; p7 = f.2; p8 = f.3; p9 = g.0 },
+     a.2 ∙ ap (λ (v : List Token). word keyword.Let a.0 ∷ v) (b.2 ∙ ap (λ (v : List Token). word keyword.Comp b.0 ∷ v)
+     (c.2 ∙ ap (λ (v : List Token). token (lexeme.Name (codes "main")) c.0 ∷ v) (d.2 ∙ ap (λ (v : List Token). sign symbol.Equal d.0 ∷ v)
+     (f.5 ∙ ap (λ (v : List Token). stream_tokens keyword.Read f.0 f.1 f.2 f.3 v) (g.2 ∙ ap (λ (v : List Token). sign symbol.Pipe g.0 ∷ v) (are_nil g.1 g.3)))))))
+
+-- the tokens after the component
+abbrev tail_tokens : Place → Place → Place → Place → Place → List Token
+tail_tokens here a b c d = sign symbol.Pipe here ∷ stream_tokens keyword.Write a b c d []
+
+tail_are : (ts : List Token) → Are tail ts → (here a b c d : Place) × (ts ≡ tail_tokens here a b c d)
+tail_are ts h =
+    let a = are_cons (lexeme.Symbol symbol.Pipe) (stream keyword.Write) ts h in
+    let b = stream_are keyword.Write [] a.1 a.3 in
+    (a.0, b.0, b.1, b.2, b.3, a.2 ∙ ap (λ (v : List Token). sign symbol.Pipe a.0 ∷ v) (b.5 ∙ ap (λ (v : List Token). stream_tokens keyword.Write b.0 b.1 b.2 b.3 v) (are_nil b.4 b.6)))
+
+tail_ends : (here a b c d : Place) → pipe_at (tail_tokens here a b c d) ≡ None
+unfolding pipe_at
+tail_ends here a b c d = rw (sign_read symbol.Pipe here (stream_tokens keyword.Write a b c d []), keyword_read keyword.Write a (sign symbol.LeftBracket b ∷ word keyword.Bit c ∷ sign symbol.RightBracket d ∷ [])) refl
 
 at_end_is : (main : Part) (ts : List Token) (p : Prog) → at_end main ts ≡ Some p → (ts ≡ []) × (p ≡ record { input = ty.Bit; main = main.what; output = ty.Bit })
 at_end_is main [] p e = let made : Prog = record { input = ty.Bit; main = main.what; output = ty.Bit } in (refl, sym (some_is made p e))
@@ -126,6 +167,17 @@ program_sound ts p e =
     let after : b.0.1 ≡ sign symbol.Pipe c.0.0 ∷ stream_tokens keyword.Write d'.0 d'.1 d'.2 d'.3 [] = c' ∙ ap (λ (v : List Token). sign symbol.Pipe c.0.0 ∷ v) (d'.4 ∙ ap (λ (v : List Token). stream_tokens keyword.Write d'.0 d'.1 d'.2 d'.3 v) ended.0) in
     record {
       before = head_tokens places.0; from = a.0; after = b.0.1; main = b.0.0; is = ended.1; whole = places.1;
-      head = (refl, refl, refl, refl, refl, refl, refl, refl, refl, tt);
+      head = (refl, (refl, (refl, (refl, (refl, (refl, (refl, (refl, (refl, tt)))))))));
       component = main_sound 9 0 a.0 b.0 b.1;
-      tail = subst (λ (v : List Token). Are tail v) (sym after) (refl, refl, refl, refl, refl, tt) }
+      tail = subst (λ (v : List Token). Are tail v) (sym after) (refl, (refl, (refl, (refl, (refl, tt))))) }
+
+-- a program is read
+pub program_read : (ts : List Token) (p : Prog) → IsProg ts p → program_at ts ≡ Some p
+unfolding program_at
+program_read ts p h =
+    let front = head_are h.before h.head in
+    let back = tail_are h.after h.tail in
+    let starts : head_at ts ≡ Some h.from = ap head_at (h.whole ∙ ap (λ (v : List Token). v ++ h.from) front.1) ∙ head_read front.0 h.from in
+    let component : main_at 9 0 h.from ≡ Some (h.main, h.after) = main_read 9 0 h.main h.from h.after h.component (ap pipe_at back.5 ∙ tail_ends back.0 back.1 back.2 back.3 back.4) in
+    let piped : sign_at symbol.Pipe h.after ≡ Some (back.0, stream_tokens keyword.Write back.1 back.2 back.3 back.4 []) = ap (sign_at symbol.Pipe) back.5 ∙ sign_read symbol.Pipe back.0 (stream_tokens keyword.Write back.1 back.2 back.3 back.4 []) in
+    rw (starts, component, piped, bits_read keyword.Write back.1 back.2 back.3 back.4 []) (ap (λ (q : Prog). Some q) (sym h.is))
