@@ -18,6 +18,8 @@ use Rattle.zir_lex.specs.declared.token.Symbol.{Symbol}
 use Rattle.zir_lex.specs.declared.token.Symbol.TheVariants as symbol
 use Rattle.zir_lex.specs.contracts.token.Keyword.{the_type as the_keyword}
 use Rattle.zir_lex.specs.contracts.token.Symbol.{the_type as the_symbol}
+use Rattle.zir_lex.specs.declared.lexer.LexError.{LexError}
+use Rattle.zir_lex.specs.declared.lexer.LexError.TheVariants as lex_error
 use Rattle.zir_front.specs.declared.error.FrontError.{FrontError}
 use Rattle.zir_front.specs.declared.error.FrontError.TheVariants.{Refused, Memory}
 use Rattle.zir_front.specs.declared.part.Kind.{Kind}
@@ -53,6 +55,11 @@ Fails Memory read = Unit {0}
 abbrev pub Gives : {X Y : Type 0} → (X → Y) → Result X FrontError → Option Y → Type 0
 Gives view (Ok x) read = read ≡ Some (view x)
 Gives view (Err e) read = Fails e read
+
+-- a text without tokens is refused
+abbrev pub front_error : LexError → FrontError
+front_error lex_error.Memory = Memory
+front_error _ = Refused
 
 -- the lexeme is this sign
 abbrev pub is_sign : Symbol → Lexeme → Bool

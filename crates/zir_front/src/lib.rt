@@ -10,7 +10,7 @@ mod program;
 mod word;
 
 pub use error::FrontError;
-pub use program::parse;
+pub use program::{one_program, read_program};
 
 #[cfg(test)]
 mod tests;
