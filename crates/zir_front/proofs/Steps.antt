@@ -32,13 +32,6 @@ unfolding members_from
 members_go_on n i at members scope last ts lt =
     let k : n - i ≡ suc (n - (i + 1)) = omega arith in rw k refl
 
--- no turn is left
-pub members_end : (n i : ℕ) (at : Place) (members : List Member) (scope : List Ident) (last : ℕ) (ts : List Token) → n ≤ i
-    → members_from (n - i) at members scope last ts ≡ None
-unfolding members_from
-members_end n i at members scope last ts le =
-    let k : n - i ≡ 0 = omega arith in rw k refl
-
 -- a turn that is not read is not read in its block
 pub turn_fails : (e : FrontError) (n i : ℕ) (at : Place) (members : List Member) (scope : List Ident) (last : ℕ) (ts : List Token) (total : Option (Braced × List Token)) → i < n
     → Fails e (turn_at scope last ts) → members_from (n - i) at members scope last ts ≡ total → Fails e total
