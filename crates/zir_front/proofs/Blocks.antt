@@ -1,23 +1,21 @@
 -- Blocks: what is read is in the grammar, and what is in the grammar is read.
-use Rattle.std.proofs.Common.{◌≡◌, ℕ, zero, suc, ◌+◌, ◌-◌, ◌≤◌, ◌<◌, Bool, true, false, List, [], ◌∷◌, ◌++◌, length, Option, Some, None, ◌⊎◌, inl, inr, refl, sym, ap, subst, ◌∙◌, append_assoc, arith}
+use Rattle.std.proofs.Common.{◌≡◌, ℕ, zero, suc, ◌+◌, ◌≤◌, ◌<◌, Bool, true, false, List, [], ◌∷◌, ◌++◌, length, Some, None, inl, inr, refl, sym, ap, subst, ◌∙◌, append_assoc, arith}
 use Rattle.zir_tree.specs.declared.place.Place.{Place}
 use Rattle.zir_tree.specs.declared.tree.Ident.{Ident}
-use Rattle.zir_tree.specs.declared.tree.Expr.{Expr, Unit as UnitValue}
+use Rattle.zir_tree.specs.declared.tree.Expr.{Unit as UnitValue}
 use Rattle.zir_tree.specs.declared.tree.Comp.{Comp, Take, Emit, Return, Block}
 use Rattle.zir_tree.specs.declared.tree.Member.{Member}
 use Rattle.zir_lex.specs.declared.token.Token.{Token}
 use Rattle.zir_lex.specs.declared.token.Lexeme.TheVariants as lexeme
-use Rattle.zir_lex.specs.declared.token.Keyword.{Keyword}
 use Rattle.zir_lex.specs.declared.token.Keyword.TheVariants as keyword
-use Rattle.zir_lex.specs.declared.token.Symbol.{Symbol}
 use Rattle.zir_lex.specs.declared.token.Symbol.TheVariants as symbol
 use Rattle.zir_front.specs.declared.part.Braced.{Braced}
 use Rattle.zir_front.specs.declared.part.Turn.{Turn}
 use Rattle.zir_front.specs.declared.part.Turn.TheVariants.{More, Last}
 use Rattle.zir_front.specs.Grammar.{token, sign, word, IsExpr, names_of, last_after, IsMember, binds, takes, emits, IsLast, emits_last, returns_unit, returns_value, IsBody, IsBlock}
 use Rattle.zir_front.specs.Reading.{◌>>=◌, if_found, sign_at, keyword_at, name_at, expr_at, plain, emit_at, return_at, binding_at, turn_at, after_turn, members_from, block_at}
-use Rattle.zir_front.proofs.Tools.{bind_some, found_or, guard_some, some_is, none_is}
-use Rattle.zir_front.proofs.Words.{sign_stands, sign_read, keyword_stands, keyword_read, name_stands, name_read}
+use Rattle.zir_front.proofs.Tools.{bind_some, found_or, some_is, none_is}
+use Rattle.zir_front.proofs.Words.{sign_stands, sign_read, keyword_stands, name_stands}
 use Rattle.zir_front.proofs.Expressions.{expr_sound, expr_read, expr_begins, operands_short}
 
 -- what a turn stands for

@@ -1,7 +1,7 @@
 -- Components: what is read is in the grammar, and what is in the grammar is read.
-use Rattle.std.proofs.Common.{◌≡◌, ℕ, zero, suc, ◌+◌, ◌-◌, ◌≤◌, ◌<◌, Bool, true, false, cond, List, [], ◌∷◌, length, Option, Some, None, ◌⊎◌, inl, inr, refl, sym, ap, subst, ◌∙◌, arith}
+use Rattle.std.proofs.Common.{◌≡◌, ℕ, zero, suc, ◌+◌, ◌-◌, ◌≤◌, true, cond, List, ◌∷◌, Option, Some, None, inl, inr, refl, sym, ap, subst, ◌∙◌, arith}
 use Rattle.zir_tree.specs.declared.place.Place.{Place}
-use Rattle.zir_tree.specs.declared.tree.Comp.{Comp, Repeat, Pipe}
+use Rattle.zir_tree.specs.declared.tree.Comp.{Repeat, Pipe}
 use Rattle.zir_lex.specs.declared.token.Token.{Token}
 use Rattle.zir_lex.specs.declared.token.Keyword.TheVariants as keyword
 use Rattle.zir_lex.specs.declared.token.Symbol.TheVariants as symbol
@@ -9,7 +9,7 @@ use Rattle.zir_front.specs.declared.part.Kind.{Kind}
 use Rattle.zir_front.specs.declared.part.Kind.TheVariants.{Computer, Transformer}
 use Rattle.zir_front.specs.declared.part.Part.{Part}
 use Rattle.zir_front.specs.declared.part.Braced.{Braced}
-use Rattle.zir_front.specs.Grammar.{token, sign, word, IsBlock, Form, IsAtom, blocks, repeats, encloses, joint, IsPipe, IsChain, IsMain}
+use Rattle.zir_front.specs.Grammar.{sign, IsBlock, Form, IsAtom, blocks, repeats, encloses, joint, IsPipe, IsChain, IsMain}
 use Rattle.zir_front.specs.Reading.{◌>>=◌, if_found, sign_at, keyword_at, block_at, pipe_at, joined, repeat_at, Reader, atom_at, chain_from, chain_at, main_at}
 use Rattle.zir_front.proofs.Tools.{bind_some, found_or, guard_some, some_is, none_is}
 use Rattle.zir_front.proofs.Words.{sign_stands, sign_read, keyword_stands, keyword_read}

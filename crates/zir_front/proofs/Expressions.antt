@@ -1,5 +1,5 @@
 -- Expressions: what is read is in the grammar, and what is in the grammar is read.
-use Rattle.std.proofs.Common.{◌≡◌, ℕ, zero, suc, ◌+◌, ◌-◌, ◌≤◌, ◌<◌, Bool, List, [], ◌∷◌, length, Option, Some, None, ◌⊎◌, inl, inr, refl, sym, ap, subst, ◌∙◌, arith}
+use Rattle.std.proofs.Common.{◌≡◌, ℕ, zero, suc, ◌+◌, ◌-◌, ◌≤◌, ◌<◌, List, [], ◌∷◌, length, Option, Some, None, inl, inr, refl, sym, ap, subst, ◌∙◌, arith}
 use Rattle.zir_tree.specs.declared.place.Place.{Place}
 use Rattle.zir_tree.specs.declared.tree.Ident.{Ident}
 use Rattle.zir_tree.specs.declared.tree.Expr.{Expr, Bit as BitValue, Variable, Xor}
@@ -9,8 +9,8 @@ use Rattle.zir_lex.specs.declared.token.Lexeme.TheVariants as lexeme
 use Rattle.zir_lex.specs.declared.token.Symbol.{Symbol}
 use Rattle.zir_lex.specs.declared.token.Symbol.TheVariants as symbol
 use Rattle.zir_front.specs.Grammar.{token, sign, number_of, IsPrimary, names, bits, IsXor, IsOperands, IsExpr}
-use Rattle.zir_front.specs.Reading.{◌>>=◌, if_found, sign_at, primary_in, primary_at, operands_from, expr_at}
-use Rattle.zir_front.proofs.Tools.{bind_some, found_or, guard_some, some_is, none_is}
+use Rattle.zir_front.specs.Reading.{◌>>=◌, sign_at, primary_in, primary_at, operands_from, expr_at}
+use Rattle.zir_front.proofs.Tools.{bind_some, found_or, some_is, none_is}
 use Rattle.zir_front.proofs.Words.{sign_stands, sign_read}
 
 -- so many further ones

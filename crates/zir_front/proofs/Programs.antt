@@ -1,5 +1,5 @@
 -- Programs: what is read is a program, and a program is read.
-use Rattle.std.proofs.Common.{rules, ◌≡◌, ℕ, zero, suc, Bool, true, false, cond, List, [], ◌∷◌, ◌++◌, length, Option, Some, None, refl, sym, ap, subst, ◌∙◌}
+use Rattle.std.proofs.Common.{◌≡◌, ℕ, true, cond, List, [], ◌∷◌, ◌++◌, Some, None, refl, sym, ap, subst, ◌∙◌}
 use Rattle.std.specs.Prelude.{codes}
 use Rattle.std.specs.Str.{bytes_eq}
 use Rattle.std.proofs.lemmas.Slice.Eq.{bytes_eq-Decides}
@@ -13,7 +13,7 @@ use Rattle.zir_lex.specs.declared.token.Keyword.{Keyword}
 use Rattle.zir_lex.specs.declared.token.Keyword.TheVariants as keyword
 use Rattle.zir_lex.specs.declared.token.Symbol.TheVariants as symbol
 use Rattle.zir_front.specs.declared.part.Part.{Part}
-use Rattle.zir_front.specs.Grammar.{token, sign, word, Are, head, tail, IsMain, IsProg}
+use Rattle.zir_front.specs.Grammar.{token, sign, word, Are, head, tail, IsProg}
 use Rattle.zir_front.specs.Reading.{◌>>=◌, sign_at, keyword_at, name_at, pipe_at, bits_at, head_at, at_end, main_at, program_at}
 use Rattle.zir_front.proofs.Tools.{bind_some, guard_some, some_is, none_is}
 use Rattle.zir_front.proofs.Words.{sign_stands, sign_read, keyword_stands, keyword_read, name_stands, name_read}
