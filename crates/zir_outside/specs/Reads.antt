@@ -7,7 +7,7 @@ pub record Takes (bytes : List ℕ) (left : Option (List ℕ)) (into : List ℕ)
   pub within : n ≤ length into
   pub front : take n into ≡ take n bytes
   pub rest : left ≡ Some (drop n bytes)
-  pub end : 0 < length into → (n ≡ 0) ↔ (bytes ≡ [])
+  pub end : 0 < length into → ((n ≡ 0) ↔ (bytes ≡ []))
 
 -- what a read answers and leaves, where the bytes to come are told and where they are not
 abbrev pub Reads : Option (List ℕ) → Option (List ℕ) → List ℕ → Result ℕ Failed → Type 0

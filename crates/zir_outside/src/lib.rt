@@ -9,8 +9,8 @@ pub mod real;
 ghost use Rattle.std.specs.Prelude.{ℕ, ◌≡◌, ◌≤◌, ◌⊎◌, [], List, Option, IfOk, OnOk, OnErr, IsErrOf, length};
 ghost use Rattle.zir_outside.specs.Causes.{HasCause, Rose};
 ghost use Rattle.zir_outside.specs.Reads.{Reads};
-ghost use Rattle.zir_outside.specs.Sinks.{Grew, GrewPart, Tells};
 ghost use Rattle.zir_outside.specs.Loads.{Loads, IsAbsent};
+ghost use Rattle.zir_outside.specs.Sinks.{Grew, GrewPart, Tells};
 ghost use Rattle.zir_outside.specs.declared.LoadError.TheVariants.{Memory};
 
 use std::alloc::AllocError;
@@ -48,8 +48,10 @@ pub const LONGEST_TEXT: usize = 65_536;
 
 /// Bytes that are read from front to back.
 pub trait Source {
+    // The bytes still to come, where it tells them.
     ghost left: { Self → Option (List ℕ) };
 
+    // How often it failed. This never falls.
     ghost faults: { Self → ℕ };
 
     /// Reads bytes into the front of `into` and says how many. `Ok(0)` for a buffer that is not empty is the end of
@@ -62,8 +64,10 @@ pub trait Source {
 
 /// A place that bytes are put to.
 pub trait Sink {
+    // Whether it stands for these bytes. It tells its bytes where it stands for some list.
     ghost stands_for: { Self → List ℕ → Type 0 };
 
+    // How often it failed. This never falls.
     ghost faults: { Self → ℕ };
 
     /// Puts the whole piece behind the bytes that were put before. After `Failed` a front part of it may have been put.
@@ -76,8 +80,10 @@ pub trait Sink {
 
 /// Texts that are loaded by their names.
 pub trait Shelf {
+    // The texts by their names, where it tells them.
     ghost texts: { Self → Option (List ℕ → Option (List ℕ)) };
 
+    // How often it failed. This never falls.
     ghost faults: { Self → ℕ };
 
     /// Replaces what `into` holds by the text of this name, of at most 65,536 bytes. `into` is empty after an error.
@@ -92,7 +98,7 @@ pub trait Shelf {
 
 /// Is told that a turn of a stage starts.
 pub trait Gate {
-    /// Stages and rounds are counted from 1.
+    /// Called before a turn of this stage in this round; both are counted from 1.
     fn pass(&self, stage: usize, round: u64);
 }
 

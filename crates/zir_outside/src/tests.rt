@@ -85,53 +85,68 @@ fn shelf_of_two(
     ))
 }
 
+/// What a source of eight bytes in memory gives.
+fn given(alloc: Global, piece: usize, failing: &[u64]) -> Result<Vec<u8>, AllocError> {
+    let bytes = Vec::from_slice(alloc, b"abcdefgh")?;
+    let failing = Vec::from_slice(alloc, failing)?;
+    let mut source = MemSource::new(bytes, piece.max(1), failing);
+    drained(alloc, &mut source)
+}
+
 #[test]
-fn objects_in_memory(rt: HostRuntime) -> Result<(), Fail> {
+fn sources_in_memory(rt: HostRuntime) -> Result<(), Fail> {
     let alloc = rt.alloc();
-    let reads: [(usize, &[u64], &[u8]); 4] = [
+    let cases: [(usize, &[u64], &[u8]); 4] = [
         (1, &[], b"abcdefgh"),
         (3, &[2], b"abc!defgh"),
         (100, &[1, 2, 4], b"!!abcd!efgh"),
         (2, &[5], b"abcdefgh!"),
     ];
-    for (piece, failing, want) in reads {
-        let failing = Vec::from_slice(alloc, failing)?;
-        assert!(rt; piece > 0);
-        let mut source = MemSource::new(Vec::from_slice(alloc, b"abcdefgh")?, piece, failing);
-        let got = drained(alloc, &mut source)?;
-        assert_eq!(rt; got.as_slice(), want, "in pieces of {piece}");
-        assert_eq!(rt; source.given(), 8);
+    for (piece, failing, want) in cases {
+        assert_eq!(rt;
+            given(alloc, piece, failing)?.as_slice(),
+            want,
+            "in pieces of {piece}"
+        );
     }
+    Ok(())
+}
 
-    let puts: [(usize, &[u64], &[u8], &[u8]); 4] = [
-        (7, &[], b"...", b"abcdefg"),
-        (6, &[], b"..!", b"abcde"),
-        (7, &[2], b".!.", b"abcfg"),
-        (4, &[3], b".!!", b"abc"),
+/// The signs of three pieces put to a sink in memory, and then what it holds.
+fn held(alloc: Global, room: usize, failing: &[u64]) -> Result<Vec<u8>, AllocError> {
+    let mut sink = MemSink::new(alloc, room, Vec::from_slice(alloc, failing)?)?;
+    let mut all = filled(alloc, &mut sink, &["abc", "de", "fg"])?;
+    all.extend_from_slice(sink.bytes())?;
+    Ok(all)
+}
+
+#[test]
+fn sinks_in_memory(rt: HostRuntime) -> Result<(), Fail> {
+    let alloc = rt.alloc();
+    let cases: [(usize, &[u64], &[u8]); 4] = [
+        (7, &[], b"...abcdefg"),
+        (6, &[], b"..!abcde"),
+        (7, &[2], b".!.abcfg"),
+        (4, &[3], b".!!abc"),
     ];
-    for (room, failing, signs, want) in puts {
-        let mut sink = MemSink::new(alloc, room, Vec::from_slice(alloc, failing)?)?;
-        let got = filled(alloc, &mut sink, &["abc", "de", "fg"])?;
-        assert_eq!(rt; got.as_slice(), signs, "in {room} bytes");
-        assert_eq!(rt; sink.bytes(), want, "in {room} bytes");
+    for (room, failing, want) in cases {
+        assert_eq!(rt;
+            held(alloc, room, failing)?.as_slice(),
+            want,
+            "in {room} bytes"
+        );
     }
+    Ok(())
+}
 
+#[test]
+fn shelves_in_memory(rt: HostRuntime) -> Result<(), Fail> {
+    let alloc = rt.alloc();
     let mut shelf = shelf_of_two(alloc, ("p", "pq"), (65_536, 65_537), &[3])?;
-    assert_eq!(rt; loaded(alloc, &mut shelf, "p")?.len(), 65_536);
-    assert_eq!(rt;
-        loaded(alloc, &mut shelf, "pq")?.as_slice(),
-        b"too long".as_slice()
-    );
-    assert_eq!(rt;
-        loaded(alloc, &mut shelf, "p")?.as_slice(),
-        b"failed".as_slice()
-    );
-    assert_eq!(rt;
-        loaded(alloc, &mut shelf, "q")?.as_slice(),
-        b"failed".as_slice()
-    );
+    for (name, want) in [("p", 65_536), ("pq", 8), ("p", 6), ("q", 6)] {
+        assert_eq!(rt; loaded(alloc, &mut shelf, name)?.len(), want, "{name}");
+    }
     assert_eq!(rt; shelf.text("pq").map_or(0, |text| text.len()), 65_537);
-    assert!(rt; shelf.text("q").is_none());
     Ok(())
 }
 
@@ -192,55 +207,50 @@ fn adapters_tell_failures(rt: HostRuntime) -> Result<(), Fail> {
     Ok(())
 }
 
-#[test]
-fn adapters_reach_files(rt: HostRuntime) -> Result<(), Fail> {
-    let alloc = rt.alloc();
-    let folder = env::temp_dir(&rt)?;
+/// A path of a file that no other run uses.
+fn own_path(rt: &HostRuntime) -> io::Result<String> {
+    let folder = env::temp_dir(rt)?;
     let id = process::id(rt.process());
-    let path = format!(in alloc; "{}/zir_outside_{id}", folder.display())?;
+    Ok(format!(in rt.alloc(); "{}/zir_outside_{id}", folder.display())?)
+}
+
+#[test]
+fn streams_reach_files(rt: HostRuntime) -> Result<(), Fail> {
+    let alloc = rt.alloc();
+    let path = own_path(&rt)?;
     let mut output = StdOutput::new(fs::create(&rt, &path)?);
-    assert_eq!(rt;
-        filled(alloc, &mut output, &["abc", "", "defgh"])?.as_slice(),
-        b"...".as_slice()
-    );
+    filled(alloc, &mut output, &["abc", "", "defgh"])?;
     let mut input = StdInput::new(fs::open(&rt, &path)?);
     assert_eq!(rt;
         drained(alloc, &mut input)?.as_slice(),
         b"abcdefgh".as_slice()
     );
+    fs::remove_file(&rt, &path)?;
+    Ok(())
+}
 
+#[test]
+fn streams_reach_the_terminal(rt: HostRuntime) -> Result<(), Fail> {
+    let alloc = rt.alloc();
+    let mut notes = StdNotes::new(rt.stderr());
+    assert_eq!(rt; filled(alloc, &mut notes, &["input ended\n"])?.len(), 1);
+    let mut output = StdOutput::new(rt.stdout());
+    assert_eq!(rt; filled(alloc, &mut output, &["01\n"])?.len(), 1);
+    Ok(())
+}
+
+#[test]
+fn texts_come_from_files(rt: HostRuntime) -> Result<(), Fail> {
+    let alloc = rt.alloc();
+    let path = own_path(&rt)?;
     let mut shelf = FileShelf::new(&rt);
-    assert_eq!(rt;
-        loaded(alloc, &mut shelf, &path)?.as_slice(),
-        b"abcdefgh".as_slice()
-    );
-    for (size, want) in [(65_536, 65_536), (65_537, 8)] {
+    for (size, want) in [(3, 3), (65_536, 65_536), (65_537, 8)] {
         fs::write(&rt, &path, vec![in alloc; b'x'; size]?)?;
-        assert_eq!(rt; loaded(alloc, &mut shelf, &path)?.len(), want);
+        assert_eq!(rt; loaded(alloc, &mut shelf, &path)?.len(), want, "{size}");
     }
     fs::remove_file(&rt, &path)?;
-    assert_eq!(rt;
-        loaded(alloc, &mut shelf, &path)?.as_slice(),
-        b"failed".as_slice()
-    );
-    assert_eq!(rt;
-        loaded(alloc, &mut shelf, "/dev/zero")?.as_slice(),
-        b"too long".as_slice()
-    );
-    assert_eq!(rt;
-        loaded(alloc, &mut shelf, "/")?.as_slice(),
-        b"failed".as_slice()
-    );
-
-    let mut notes = StdNotes::new(rt.stderr());
-    assert_eq!(rt;
-        filled(alloc, &mut notes, &["input ended\n"])?.as_slice(),
-        b".".as_slice()
-    );
-    let mut output = StdOutput::new(rt.stdout());
-    assert_eq!(rt;
-        filled(alloc, &mut output, &["01\n"])?.as_slice(),
-        b".".as_slice()
-    );
+    for (name, want) in [(path.as_str(), 6), ("/dev/zero", 8), ("/", 6)] {
+        assert_eq!(rt; loaded(alloc, &mut shelf, name)?.len(), want, "{name}");
+    }
     Ok(())
 }
