@@ -1,9 +1,9 @@
 -- What a reader of bits gives, by what its reader of bytes gives.
-use Rattle.std.proofs.Common.{ℕ, zero, suc, ◌+◌, ◌-◌, ◌/◌, ◌%◌, ◌<◌, ◌≤◌, ◌≡◌, Bool, true, false, List, [], ◌∷◌, ◌++◌, Option, Some, None, Result, Ok, Err, length, take, drop, get_or, refl, ap, sym, ◌∙◌, arith, append_assoc, drop-cons, add-one, length-append}
+use Rattle.std.proofs.Common.{ℕ, suc, ◌+◌, ◌-◌, ◌/◌, ◌%◌, ◌<◌, ◌≤◌, ◌≡◌, Bool, true, false, List, [], ◌∷◌, ◌++◌, Option, Some, None, Ok, Err, length, get_or, refl, ap, sym, ◌∙◌, arith, append_assoc, drop-cons, add-one, length-append}
 use Rattle.std.specs.Prelude.{if◌then◌else◌, nat_eq, slice_range}
 use Rattle.zir_meaning.specs.Samples.{bits_of, low_bits}
 use Rattle.zir_outside.specs.declared.Failed.{Failed}
-use Rattle.zir_samples.specs.Reading.{bits_to_come, bytes_to_come, Gives, GivesBit, GivesByte, KeptBits, KeptBytes}
+use Rattle.zir_samples.specs.Reading.{bits_to_come, bytes_to_come, GivesBit, GivesByte, KeptBits, KeptBytes}
 use Rattle.zir_samples.proofs.Spelling.{bits-append, length-bits_of, length-low_bits}
 
 -- the first of a part of a piece

@@ -1,6 +1,5 @@
-use Rattle.std.proofs.Common.{◌≡◌, ◌∷◌, ◌∙◌, ap, sym, refl, ◌≤◌, ◌-◌, ◌/◌, length, arith}
+use Rattle.std.proofs.Common.{◌≡◌, ◌-◌, ◌/◌, arith}
 use Rattle.std.proofs.lemmas.Result.{err_from_is_err_and}
-use Rattle.std.specs.Prelude.{nat_eq}
 use Rattle.zir_samples.proofs.Giving.{few_bits, gives_failure, gives_first, gives_none}
 use Rattle.zir_samples.proofs.bits.BitReader.next.Goals as goal
 
