@@ -1,0 +1,211 @@
+//! Runs a component over a source and a sink of bytes.
+
+ghost use Rattle.std.specs.Prelude.{ℕ, List, Option, Some, None, ◌≡◌, true, false, [], ◌∷◌, ◌++◌, IfOk, OnOk, OnErr, IsErrOf, length};
+ghost use Rattle.zir_tree.specs.declared.value.Val.{Val};
+ghost use Rattle.zir_meaning.specs.Store.{bound};
+ghost use Rattle.zir_meaning.specs.Trace.{State};
+ghost use Rattle.zir_meaning.specs.Component.{tr};
+ghost use Rattle.zir_outside.specs.Causes.{Rose};
+ghost use Rattle.zir_run.specs.Plain.{is_step, is_plain};
+ghost use Rattle.zir_run.specs.Engine.{trace_of, Ran, RanPart, ahead, StandsAt, list_tr, Goes, Closes};
+
+use crate::eval::{eval, is_one};
+use std::alloc::{AllocError, Global};
+use zir_outside::{Failed, Sink, Source};
+use zir_samples::{BitReader, BitWriter};
+use zir_tree::tree::{Comp, Expr, Ident, Member};
+use zir_tree::value::{Slot, Val};
+
+/// How the run of a component ended.
+#[derive(Clone, Copy, Debug, PartialEq, Eq)]
+pub enum Ended {
+    /// With its control value.
+    Value,
+    /// It needed an element behind the end of the input.
+    Starved,
+    /// It needed a tick, and none was left.
+    Spent,
+}
+
+/// Why the run of a component broke off.
+#[derive(Clone, Copy, Debug, PartialEq, Eq)]
+pub enum RunError {
+    /// A read failed.
+    Read,
+    /// A put failed.
+    Write,
+    /// There was no memory.
+    Memory,
+}
+
+impl From<AllocError> for RunError {
+    ghost use Rattle.zir_run.specs.declared.engine.RunError.TheVariants.{Memory as NoMemory};
+
+    ghost from_gives = { λ _ e. e ≡ NoMemory };
+
+    fn from(_error: AllocError) -> RunError {
+        RunError::Memory
+    }
+}
+
+/// Why a run does not go on behind a member of a block.
+#[derive(Clone, Copy, Debug, PartialEq, Eq)]
+pub enum Stop {
+    Starved,
+    Spent,
+    Read,
+    Write,
+    Memory,
+}
+
+/// A run of a component: the bits that it read ahead and that it has not written yet, what is in scope, and the ticks
+/// left.
+#[derive(Debug, Drop)]
+pub struct Running {
+    pub reader: BitReader,
+    pub writer: BitWriter,
+    pub store: Vec<Slot>,
+    pub left: u64,
+}
+
+/// Runs a component over the bits of `input` with so many ticks, and writes its outputs as bits to `out`. The last byte
+/// is padded once where the run ended. Where a read failed or memory ran out, whole bytes of the outputs were written.
+pub fn run_component<S: Source, K: Sink>(
+    alloc: Global,
+    main: &Comp,
+    ticks: u64,
+    input: &mut S,
+    out: &mut K,
+) -> Result<Ended, RunError>
+    requires { is_plain main.now ≡ true }
+    ensures done { (bytes : List ℕ) → S.left input.old ≡ Some bytes → IfOk result (λ answer. Ran answer (trace_of main.now ticks bytes) (K.stands_for out.old) (K.stands_for out.new)) }
+    ensures failed { (bytes : List ℕ) → S.left input.old ≡ Some bytes → OnErr result (RanPart (trace_of main.now ticks bytes) (K.stands_for out.old) (K.stands_for out.new)) }
+    ensures read { IsErrOf result RunError.Read → Rose (S.faults input.old) (S.faults input.new) }
+    ensures write { IsErrOf result RunError.Write → Rose (K.faults out.old) (K.faults out.new) }
+{
+    let Comp::Block(members, _) = main else {
+        unreachable!()
+    };
+    let mut run = Running::open(alloc, ticks)?;
+    let stop = run.members(members.as_slice(), input, out);
+    run.close(stop, out)
+}
+
+impl Running {
+    /// Nothing was read or given yet.
+    fn open(alloc: Global, ticks: u64) -> Result<Running, AllocError>
+    {
+        Ok(Running {
+            reader: BitReader::open(alloc)?,
+            writer: BitWriter::open(alloc)?,
+            store: Vec::new(alloc),
+            left: ticks,
+        })
+    }
+
+    /// Runs the members of a block one after the other.
+    fn members<S: Source, K: Sink>(&mut self, members: &[Member], input: &mut S, out: &mut K) -> Result<(), Stop>
+    {
+        for member in members {
+            let value = self.member(&member.what, input, out)?;
+            self.bind(&member.bound, value)?;
+        }
+        Ok(())
+    }
+
+    /// Runs a member of a block, and gives its control value.
+    fn member<S: Source, K: Sink>(&mut self, what: &Comp, input: &mut S, out: &mut K) -> Result<Val, Stop>
+    {
+        match what {
+            Comp::Take(_) => self.take(input),
+            Comp::Emit(e, _) => self.emit(e, out),
+            Comp::Return(e, _) => self.give_back(e),
+            Comp::Block(..) | Comp::Repeat(..) | Comp::Pipe(..) => unreachable!(),
+        }
+    }
+
+    /// One element, which costs a tick. Without one the run starves, whatever ticks are left.
+    fn take<S: Source>(&mut self, input: &mut S) -> Result<Val, Stop>
+    {
+        match self.reader.next(input) {
+            Ok(Some(bit)) => {
+                self.tick()?;
+                Ok(Val::Bit(bit))
+            }
+            Ok(None) => Err(Stop::Starved),
+            Err(Failed) => Err(Stop::Read),
+        }
+    }
+
+    /// Gives the value of an expression as an output, which costs a tick.
+    fn emit<K: Sink>(&mut self, e: &Expr, out: &mut K) -> Result<Val, Stop>
+    {
+        let value = eval(e, &self.store);
+        self.tick()?;
+        match self.writer.push(is_one(value), out) {
+            Ok(()) => Ok(Val::Unit),
+            Err(Failed) => Err(Stop::Write),
+        }
+    }
+
+    /// The value of an expression, which costs a tick.
+    fn give_back(&mut self, e: &Expr) -> Result<Val, Stop>
+    {
+        let value = eval(e, &self.store);
+        self.tick()?;
+        Ok(value)
+    }
+
+    /// Uses up a tick.
+    fn tick(&mut self) -> Result<(), Stop>
+    {
+        if self.left == 0 {
+            return Err(Stop::Spent);
+        }
+        self.left -= 1;
+        Ok(())
+    }
+
+    /// A name comes into scope with a value, where there is a name.
+    fn bind(&mut self, name: &Option<Ident>, value: Val) -> Result<(), Stop>
+    {
+        if let Some(name) = name {
+            let slot = Slot { id: name.id, value };
+            if self.store.push(slot).is_err() {
+                return Err(Stop::Memory);
+            }
+        }
+        Ok(())
+    }
+
+    /// Writes what is left, and answers how the run came to its end.
+    fn close<K: Sink>(&mut self, stop: Result<(), Stop>, out: &mut K) -> Result<Ended, RunError>
+    {
+        match stop {
+            Ok(()) => self.finish(Ended::Value, out),
+            Err(Stop::Starved) => self.finish(Ended::Starved, out),
+            Err(Stop::Spent) => self.finish(Ended::Spent, out),
+            Err(Stop::Read) => Err(self.break_off(RunError::Read, out)),
+            Err(Stop::Memory) => Err(self.break_off(RunError::Memory, out)),
+            Err(Stop::Write) => Err(RunError::Write),
+        }
+    }
+
+    /// Writes all that is left, padded once.
+    fn finish<K: Sink>(&mut self, answer: Ended, out: &mut K) -> Result<Ended, RunError>
+    {
+        match self.writer.finish(out) {
+            Ok(()) => Ok(answer),
+            Err(Failed) => Err(RunError::Write),
+        }
+    }
+
+    /// Writes the whole bytes that are left. A put that fails goes before any other error.
+    fn break_off<K: Sink>(&mut self, why: RunError, out: &mut K) -> RunError
+    {
+        match self.writer.flush_whole(out) {
+            Ok(()) => why,
+            Err(Failed) => RunError::Write,
+        }
+    }
+}
