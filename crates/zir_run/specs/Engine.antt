@@ -1,5 +1,5 @@
 -- What a run of a component has come to, in the terms of its trace.
-use Rattle.std.specs.Prelude.{ℕ, ◌<◌, ◌≡◌, ⊤, Bool, true, false, List, [], ◌∷◌, ◌++◌, map, All, Option, Some, None, Result, Ok, Err}
+use Rattle.std.specs.Prelude.{ℕ, ◌+◌, ◌<◌, ◌≡◌, ⊤, Bool, true, false, List, [], ◌∷◌, ◌++◌, map, All, Option, Some, None, Result, Ok, Err}
 use Rattle.zir_tree.specs.declared.value.Val.{Val}
 use Rattle.zir_tree.specs.declared.value.Val.TheVariants.{Bit as BitVal}
 use Rattle.zir_tree.specs.declared.ends.End.{End}
@@ -14,7 +14,7 @@ use Rattle.zir_meaning.specs.Component.{tr, bind, leave}
 use Rattle.zir_meaning.specs.Run.{start}
 use Rattle.zir_meaning.specs.Samples.{bits_of, spell, spell_bits, elements, element_values}
 use Rattle.zir_outside.specs.Sinks.{Grew, GrewPart}
-use Rattle.zir_samples.specs.Reading.{KeptBits, bits_to_come}
+use Rattle.zir_samples.specs.Reading.{KeptBits, no_bits, bits_to_come}
 use Rattle.zir_run.specs.declared.engine.Ended.{Ended}
 use Rattle.zir_run.specs.declared.engine.Ended.TheVariants as ended
 use Rattle.zir_run.specs.declared.engine.Stop.{Stop}
@@ -64,6 +64,39 @@ pub record Gave {K : Type 0} (stands_for : K → List ℕ → Type 0) (before no
   pub whole : All (λ b. b < 256) put
   pub bits : old ++ ones outs ≡ bits_of put ++ new
   pub grew : Grew (stands_for before) (stands_for now) put
+
+-- a run at its beginning: nothing was read, given or bound
+pub record IsFresh (run : Running) (ticks : ℕ) : Type 0 where
+  pub reader : run.reader ≡ no_bits
+  pub writer : run.writer ≡ []
+  pub store : run.store.items ≡ []
+  pub left : run.left ≡ ticks
+
+-- a tick was used, or none was left and nothing changed
+abbrev pub Ticks : {T : Type 0} → Running → Running → Result T Stop → Type 0
+Ticks old new (Ok u) = old ≡ record new { left = new.left + 1 }
+Ticks old new (Err why) = (why ≡ stop.Spent) × (old.left ≡ 0) × (new ≡ old)
+
+-- a component ended with a value and without outputs, and the run stands where it ended
+pub record Came (new : Running) (left : Option (List ℕ)) (t : Trace) (v : Val) : Type 0 where
+  pub rest : List ℕ
+  pub told : left ≡ Some rest
+  pub last : State
+  pub stands : StandsAt new last
+  pub trace : t ≡ ends (Value v) last (ahead new.reader rest)
+
+-- where a component without outputs stops, its trace ends so
+abbrev pub QuietStop : Stop → Trace → Type 0
+QuietStop stop.Starved t = (t.end ≡ Starved) × (t.outs ≡ [])
+QuietStop stop.Spent t = (t.end ≡ Spent) × (t.outs ≡ [])
+QuietStop stop.Read t = ⊤
+QuietStop stop.Memory t = ⊤
+QuietStop stop.Write t = ⊥
+
+-- what the run of a component without outputs came to
+abbrev pub Quiet : Running → Option (List ℕ) → Trace → Result Val Stop → Type 0
+Quiet new left t (Ok v) = Came new left t v
+Quiet new left t (Err why) = QuietStop why t
 
 -- a component ended with a value, with these outputs, and the run stands where it ended
 pub record Passed {K : Type 0} (stands_for : K → List ℕ → Type 0) (before now : K) (old new : Running) (left : Option (List ℕ)) (t : Trace) (v : Val) : Type 0 where
