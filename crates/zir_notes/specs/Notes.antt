@@ -1,0 +1,39 @@
+-- What the notes say of how a run ended, byte for byte.
+use Rattle.std.specs.Prelude.{ℕ, true, false, List, [], ◌++◌, codes, decimal}
+use Rattle.zir_tree.specs.declared.value.Val.{Val}
+use Rattle.zir_tree.specs.declared.value.Val.TheVariants.{Unit as UnitValue, Bit}
+use Rattle.zir_meaning.specs.Run.{RunEnd, ByValue, ByInput, ByTrap, ByBudget, ByReadFault}
+use Rattle.zir_notes.specs.declared.Ending.{Ending}
+use Rattle.zir_notes.specs.declared.Ending.TheVariants.{Value, Input, Spent}
+
+-- a value as a program spells it
+abbrev pub spelling_of : Val → List ℕ
+spelling_of UnitValue = codes "()"
+spelling_of (Bit false) = codes "'0"
+spelling_of (Bit true) = codes "'1"
+
+-- a text as a line of its own
+abbrev pub line_of : List ℕ → List ℕ
+line_of text = text ++ codes "\n"
+
+-- a line of words and a number, which stands in decimal without leading zeros
+abbrev pub number_line : List ℕ → ℕ → List ℕ
+number_line words n = line_of (words ++ decimal n)
+
+-- the lines on how many elements were taken and written
+abbrev pub counts_of : ℕ → ℕ → List ℕ
+counts_of taken written = number_line (codes "taken ") taken ++ number_line (codes "written ") written
+
+-- the note on a run by its end, its budget of ticks, and the elements that it took and wrote; a trap and a read fault have none
+abbrev pub note_of : RunEnd → ℕ → ℕ → ℕ → List ℕ
+note_of (ByValue v) ticks taken written = line_of (codes "ended " ++ spelling_of v) ++ counts_of taken written
+note_of ByInput ticks taken written = line_of (codes "input ended") ++ counts_of taken written
+note_of (ByTrap t) ticks taken written = []
+note_of ByBudget ticks taken written = number_line (codes "out of ticks ") ticks ++ number_line (codes "written ") written
+note_of ByReadFault ticks taken written = []
+
+-- the end of a run that an ending tells of
+abbrev pub run_end_of : Ending → RunEnd
+run_end_of (Value v) = ByValue v
+run_end_of Input = ByInput
+run_end_of Spent = ByBudget
