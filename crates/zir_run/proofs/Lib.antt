@@ -1,2 +1,4 @@
 pub mod Expressions
 pub mod PlainBlocks
+pub mod Giving
+pub mod Traces

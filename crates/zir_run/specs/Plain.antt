@@ -1,5 +1,5 @@
 -- The components that run so far: blocks without loops, compositions and values at their end.
-use Rattle.std.specs.Prelude.{Bool, true, false, if◌then◌else◌}
+use Rattle.std.specs.Prelude.{Bool, true, false, ◌&&◌}
 use Rattle.zir_tree.specs.declared.tree.Expr.{Expr, Unit, Bit, Variable, Xor'}
 use Rattle.zir_tree.specs.declared.tree.Comp.{Comp, Take, Emit, Return, Block', Repeat', Pipe', Row_of-Member, end_of-Member, more_of-Member}
 
@@ -22,7 +22,7 @@ is_step (Pipe' _ a _ b p) = false
 -- each member of a block is such a step
 abbrev pub row_plain : {m : _} → Row_of-Member m → Bool
 row_plain end_of-Member = true
-row_plain (more_of-Member name c ms) = if is_step c then row_plain ms else false
+row_plain (more_of-Member name c ms) = is_step c && row_plain ms
 
 -- the component is a block of such steps
 abbrev pub is_plain : Comp → Bool
