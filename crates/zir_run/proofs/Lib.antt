@@ -2,3 +2,4 @@ pub mod Expressions
 pub mod PlainBlocks
 pub mod Giving
 pub mod Traces
+pub mod Moves

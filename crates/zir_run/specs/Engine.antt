@@ -73,9 +73,9 @@ pub record IsFresh (run : Running) (ticks : ℕ) : Type 0 where
   pub left : run.left ≡ ticks
 
 -- a tick was used, or none was left and nothing changed
-abbrev pub Ticks : {T : Type 0} → Running → Running → Result T Stop → Type 0
-Ticks old new (Ok u) = old ≡ record new { left = new.left + 1 }
-Ticks old new (Err why) = (why ≡ stop.Spent) × (old.left ≡ 0) × (new ≡ old)
+abbrev pub Ticks : Running → Running → Bool → Type 0
+Ticks old new true = old ≡ record new { left = new.left + 1 }
+Ticks old new false = (old.left ≡ 0) × (new ≡ old)
 
 -- a component ended with a value and without outputs, and the run stands where it ended
 pub record Came (new : Running) (left : Option (List ℕ)) (t : Trace) (v : Val) : Type 0 where

@@ -156,8 +156,11 @@ impl Running {
     {
         match self.reader.next(input) {
             Ok(Some(bit)) => {
-                self.tick()?;
-                Ok(Val::Bit(bit))
+                if self.tick() {
+                    Ok(Val::Bit(bit))
+                } else {
+                    Err(Stop::Spent)
+                }
             }
             Ok(None) => Err(Stop::Starved),
             Err(Failed) => Err(Stop::Read),
@@ -173,7 +176,9 @@ impl Running {
         ensures later { K.faults out.old ≤ K.faults out.new }
     {
         let value = eval(e, &self.store);
-        self.tick()?;
+        if !self.tick() {
+            return Err(Stop::Spent);
+        }
         match self.writer.push(is_one(value), out) {
             Ok(()) => Ok(Val::Unit),
             Err(Failed) => Err(Stop::Write),
@@ -189,19 +194,21 @@ impl Running {
         ensures write { IsErrOf result Stop.Write → ⊥ }
     {
         let value = eval(e, &self.store);
-        self.tick()?;
+        if !self.tick() {
+            return Err(Stop::Spent);
+        }
         Ok(value)
     }
 
-    /// Uses up a tick.
-    fn tick(&mut self) -> Result<(), Stop>
+    /// Uses up a tick, and says whether one was left.
+    fn tick(&mut self) -> bool
         ensures { Ticks self.old self.new result }
     {
         if self.left == 0 {
-            return Err(Stop::Spent);
+            return false;
         }
         self.left -= 1;
-        Ok(())
+        true
     }
 
     /// A name comes into scope with a value, where there is a name.
