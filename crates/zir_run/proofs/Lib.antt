@@ -3,3 +3,4 @@ pub mod PlainBlocks
 pub mod Giving
 pub mod Traces
 pub mod Moves
+pub mod Closing

@@ -1,6 +1,7 @@
 -- What one component of a run came to, and what a block of them came to.
-use Rattle.std.specs.Prelude.{ℕ, ◌+◌, ◌≡◌, refl, Bool, true, false, List, [], ◌∷◌, ◌++◌, Option, Some, None, Result, Ok, Err, length}
-use Rattle.std.proofs.Common.{ap, ◌∙◌, sym, subst, append_assoc}
+use Rattle.std.specs.Prelude.{ℕ, suc, ◌+◌, ◌<◌, ◌≡◌, refl, Bool, true, false, List, [], ◌∷◌, ◌++◌, Option, Some, None, Result, Ok, Err, length}
+use Rattle.std.proofs.Common.{ap, ◌∙◌, sym, subst, append_assoc, get_or, drop, add-one}
+use Rattle.std.proofs.Math.Seq.{drop-cons}
 use Rattle.std.proofs.lemmas.List.{append-nil}
 use Rattle.zir_tree.specs.declared.value.Val.{Val}
 use Rattle.zir_tree.specs.declared.value.Val.TheVariants.{Unit as UnitVal}
@@ -208,3 +209,7 @@ still_end stands before now old run left ms n t none h =
       end = ap (λ t. t.end) e;
       gave = subst (λ os. Gave stands before now old run.writer os) (sym (ap (λ t. t.outs) e ∙ append-nil h.outs)) h.gave;
     }
+
+-- the item at a place, and the items behind it
+pub drop-item : {A : Type 0} (xs : List A) (i : ℕ) (x : A) → i < length xs → x ≡ get_or xs i x → drop i xs ≡ x ∷ drop (i + 1) xs
+drop-item xs i x lt e = rw (add-one, drop-cons xs i x lt) (ap (λ y. y ∷ drop (suc i) xs) (sym e))
