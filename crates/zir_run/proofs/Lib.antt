@@ -4,3 +4,4 @@ pub mod Giving
 pub mod Traces
 pub mod Moves
 pub mod Closing
+pub mod Starting

@@ -9,7 +9,7 @@ ghost use Rattle.zir_meaning.specs.Samples.{spell_bits};
 ghost use Rattle.zir_outside.specs.Causes.{Rose};
 ghost use Rattle.zir_outside.specs.Sinks.{Grew, GrewPart};
 ghost use Rattle.zir_run.specs.Plain.{is_step, is_plain};
-ghost use Rattle.zir_run.specs.Engine.{trace_of, Ran, RanPart, ahead, IsFresh, StandsAt, Ticks, Quiet, list_tr, Goes, Closes};
+ghost use Rattle.zir_run.specs.Engine.{trace_of, Ran, RanPart, ahead, IsFresh, StandsAt, Ticks, Quiet, list_tr, Goes, Halted, Closes};
 ghost use Rattle.zir_tree.specs.declared.place.Place.{Place};
 ghost use Rattle.zir_tree.specs.declared.tree.Comp.{Emit as EmitComp, Return as ReturnComp};
 
@@ -238,11 +238,24 @@ impl Running {
     {
         match stop {
             Ok(()) => self.finish(Ended::Value, out),
-            Err(Stop::Starved) => self.finish(Ended::Starved, out),
-            Err(Stop::Spent) => self.finish(Ended::Spent, out),
-            Err(Stop::Read) => Err(self.break_off(RunError::Read, out)),
-            Err(Stop::Memory) => Err(self.break_off(RunError::Memory, out)),
-            Err(Stop::Write) => Err(RunError::Write),
+            Err(why) => self.halt(why, out),
+        }
+    }
+
+    /// Writes what is left where a run stopped within a block.
+    fn halt<K: Sink>(&mut self, why: Stop, out: &mut K) -> Result<Ended, RunError>
+        ensures done { (before : K) (t : Trace) → Halted K.stands_for before out.old [] self.old.writer t why → IfOk result (λ answer. Ran answer t (K.stands_for before) (K.stands_for out.new)) }
+        ensures failed { (before : K) (t : Trace) → Halted K.stands_for before out.old [] self.old.writer t why → OnErr result (RanPart t (K.stands_for before) (K.stands_for out.new)) }
+        ensures read { IsErrOf result RunError.Read → why ≡ Stop.Read }
+        ensures write { IsErrOf result RunError.Write → (why ≡ Stop.Write) ⊎ Rose (K.faults out.old) (K.faults out.new) }
+        ensures later { K.faults out.old ≤ K.faults out.new }
+    {
+        match why {
+            Stop::Starved => self.finish(Ended::Starved, out),
+            Stop::Spent => self.finish(Ended::Spent, out),
+            Stop::Read => Err(self.break_off(RunError::Read, out)),
+            Stop::Memory => Err(self.break_off(RunError::Memory, out)),
+            Stop::Write => Err(RunError::Write),
         }
     }
 

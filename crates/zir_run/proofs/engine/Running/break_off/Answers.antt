@@ -1,3 +1,4 @@
+use Rattle.std.specs.Prelude.{false}
 use Rattle.zir_meaning.specs.Samples.{spell_bits}
 use Rattle.zir_run.proofs.Giving.{part_whole}
 use Rattle.zir_run.proofs.engine.Running.break_off.Goals as goal
