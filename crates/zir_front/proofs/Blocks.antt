@@ -1,23 +1,21 @@
 -- Blocks: what is read is in the grammar, and what is in the grammar is read.
-use Rattle.std.proofs.Common.{◌≡◌, ℕ, zero, suc, ◌+◌, ◌-◌, ◌≤◌, ◌<◌, Bool, true, false, List, [], ◌∷◌, ◌++◌, length, Option, Some, None, ◌⊎◌, inl, inr, refl, sym, ap, subst, ◌∙◌, append_assoc, arith}
+use Rattle.std.proofs.Common.{◌≡◌, ℕ, zero, suc, ◌+◌, ◌≤◌, ◌<◌, Bool, true, false, List, [], ◌∷◌, ◌++◌, length, Some, None, inl, inr, refl, sym, ap, subst, ◌∙◌, append_assoc, arith}
 use Rattle.zir_tree.specs.declared.place.Place.{Place}
 use Rattle.zir_tree.specs.declared.tree.Ident.{Ident}
-use Rattle.zir_tree.specs.declared.tree.Expr.{Expr, Unit as UnitValue}
+use Rattle.zir_tree.specs.declared.tree.Expr.{Unit as UnitValue}
 use Rattle.zir_tree.specs.declared.tree.Comp.{Comp, Take, Emit, Return, Block}
 use Rattle.zir_tree.specs.declared.tree.Member.{Member}
 use Rattle.zir_lex.specs.declared.token.Token.{Token}
 use Rattle.zir_lex.specs.declared.token.Lexeme.TheVariants as lexeme
-use Rattle.zir_lex.specs.declared.token.Keyword.{Keyword}
 use Rattle.zir_lex.specs.declared.token.Keyword.TheVariants as keyword
-use Rattle.zir_lex.specs.declared.token.Symbol.{Symbol}
 use Rattle.zir_lex.specs.declared.token.Symbol.TheVariants as symbol
 use Rattle.zir_front.specs.declared.part.Braced.{Braced}
 use Rattle.zir_front.specs.declared.part.Turn.{Turn}
 use Rattle.zir_front.specs.declared.part.Turn.TheVariants.{More, Last}
 use Rattle.zir_front.specs.Grammar.{token, sign, word, IsExpr, names_of, last_after, IsMember, binds, takes, emits, IsLast, emits_last, returns_unit, returns_value, IsBody, IsBlock}
 use Rattle.zir_front.specs.Reading.{◌>>=◌, if_found, sign_at, keyword_at, name_at, expr_at, plain, emit_at, return_at, binding_at, turn_at, after_turn, members_from, block_at}
-use Rattle.zir_front.proofs.Tools.{bind_some, found_or, guard_some, some_is, none_is}
-use Rattle.zir_front.proofs.Words.{sign_stands, sign_read, keyword_stands, keyword_read, name_stands, name_read}
+use Rattle.zir_front.proofs.Tools.{bind_some, found_or, some_is, none_is}
+use Rattle.zir_front.proofs.Words.{sign_stands, sign_read, keyword_stands, name_stands}
 use Rattle.zir_front.proofs.Expressions.{expr_sound, expr_read, expr_begins, operands_short}
 
 -- what a turn stands for
@@ -46,7 +44,7 @@ return_sound : (scope : List Ident) (last : ℕ) (at : Place) (ts all : List Tok
 unfolding return_at
 return_sound scope last at ts all x stands e =
     elim (found_or (sign_at symbol.LeftParenthesis ts) (λ x. sign_at symbol.RightParenthesis x.1 >>= λ y. sign_at symbol.RightBrace y.1 >>= λ z. Some (Last (plain (Return (UnitValue x.0) at)) true, z.1))
-          (expr_at scope ts >>= λ x. sign_at symbol.RightBrace x.1 >>= λ y. Some (Last (plain (Return x.0 at)) false, y.1)) x e) [
+    (expr_at scope ts >>= λ x. sign_at symbol.RightBrace x.1 >>= λ y. Some (Last (plain (Return x.0 at)) false, y.1)) x e) [
       | inl y ↦
           let a = bind_some (sign_at symbol.RightParenthesis y.0.1) (λ z. sign_at symbol.RightBrace z.1 >>= λ w. Some (Last (plain (Return (UnitValue y.0.0) at)) true, w.1)) x y.2 in
           let b = bind_some (sign_at symbol.RightBrace a.0.1) (λ w. Some (Last (plain (Return (UnitValue y.0.0) at)) true, w.1)) x a.2 in
@@ -89,12 +87,12 @@ turn_sound scope last ts x e =
           turn_is scope last ts (More (plain (Take y.0.0))) a.0.1 x
           (a.0.0, takes y.0.0 refl (keyword_stands keyword.Take ts y.0 y.1 ∙ ap (λ (r : List Token). word keyword.Take y.0.0 ∷ r) (sign_stands symbol.Semicolon y.0.1 a.0 a.1))) a.2
       | inr y ↦ elim (found_or (keyword_at keyword.Emit ts) (λ x. emit_at scope x.0 x.1) no_return x y.1) [
-          | inl z ↦ emit_sound scope last z.0.0 z.0.1 ts x (keyword_stands keyword.Emit ts z.0 z.1) z.2
-          | inr z ↦ elim (found_or (keyword_at keyword.Return ts) (λ x. return_at scope x.0 x.1) (binding_at last ts) x z.1) [
-              | inl w ↦ return_sound scope last w.0.0 w.0.1 ts x (keyword_stands keyword.Return ts w.0 w.1) w.2
-              | inr w ↦ binding_sound scope last ts x w.1
-            ]
+        | inl z ↦ emit_sound scope last z.0.0 z.0.1 ts x (keyword_stands keyword.Emit ts z.0 z.1) z.2
+        | inr z ↦ elim (found_or (keyword_at keyword.Return ts) (λ x. return_at scope x.0 x.1) (binding_at last ts) x z.1) [
+          | inl w ↦ return_sound scope last w.0.0 w.0.1 ts x (keyword_stands keyword.Return ts w.0 w.1) w.2
+          | inr w ↦ binding_sound scope last ts x w.1
         ]
+      ]
     ]
 
 -- a member that stands there is read

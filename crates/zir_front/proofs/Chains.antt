@@ -1,7 +1,7 @@
 -- Components: what is read is in the grammar, and what is in the grammar is read.
-use Rattle.std.proofs.Common.{◌≡◌, ℕ, zero, suc, ◌+◌, ◌-◌, ◌≤◌, ◌<◌, Bool, true, false, cond, List, [], ◌∷◌, length, Option, Some, None, ◌⊎◌, inl, inr, refl, sym, ap, subst, ◌∙◌, arith}
+use Rattle.std.proofs.Common.{◌≡◌, ℕ, zero, suc, ◌+◌, ◌-◌, ◌≤◌, true, cond, List, ◌∷◌, Option, Some, None, inl, inr, refl, sym, ap, subst, ◌∙◌, arith}
 use Rattle.zir_tree.specs.declared.place.Place.{Place}
-use Rattle.zir_tree.specs.declared.tree.Comp.{Comp, Repeat, Pipe}
+use Rattle.zir_tree.specs.declared.tree.Comp.{Repeat, Pipe}
 use Rattle.zir_lex.specs.declared.token.Token.{Token}
 use Rattle.zir_lex.specs.declared.token.Keyword.TheVariants as keyword
 use Rattle.zir_lex.specs.declared.token.Symbol.TheVariants as symbol
@@ -9,7 +9,7 @@ use Rattle.zir_front.specs.declared.part.Kind.{Kind}
 use Rattle.zir_front.specs.declared.part.Kind.TheVariants.{Computer, Transformer}
 use Rattle.zir_front.specs.declared.part.Part.{Part}
 use Rattle.zir_front.specs.declared.part.Braced.{Braced}
-use Rattle.zir_front.specs.Grammar.{token, sign, word, IsBlock, Form, IsAtom, blocks, repeats, encloses, joint, IsPipe, IsChain, IsMain}
+use Rattle.zir_front.specs.Grammar.{sign, IsBlock, Form, IsAtom, blocks, repeats, encloses, joint, IsPipe, IsChain, IsMain}
 use Rattle.zir_front.specs.Reading.{◌>>=◌, if_found, sign_at, keyword_at, block_at, pipe_at, joined, repeat_at, Reader, atom_at, chain_from, chain_at, main_at}
 use Rattle.zir_front.proofs.Tools.{bind_some, found_or, guard_some, some_is, none_is}
 use Rattle.zir_front.proofs.Words.{sign_stands, sign_read, keyword_stands, keyword_read}
@@ -51,8 +51,17 @@ joined_is left right at c e =
 longer_chain : (Atom : Form) (n : ℕ) (last : ℕ) (c : Part) (ts rest : List Token) → IsChain Atom n last c ts rest → IsChain Atom (suc n) last c ts rest
 longer_chain Atom zero last c ts rest h = absurd h
 longer_chain Atom (suc n) last c ts rest (inl a) = inl a
-longer_chain Atom (suc n) last c ts rest (inr x) = inr (record { left = x.left; at = x.at; mid = x.mid; right = x.right; kind = x.kind; fits = x.fits; is = x.is;
-    first = longer_chain Atom n last x.left ts (sign symbol.Pipe x.at ∷ x.mid) x.first; second = x.second })
+longer_chain Atom (suc n) last c ts rest (inr x) = inr (record {
+  left = x.left;
+  at = x.at;
+  mid = x.mid;
+  right = x.right;
+  kind = x.kind;
+  fits = x.fits;
+  is = x.is;
+  first = longer_chain Atom n last x.left ts (sign symbol.Pipe x.at ∷ x.mid) x.first;
+  second = x.second;
+})
 
 chain_up_to : (Atom : Form) (n k : ℕ) (last : ℕ) (c : Part) (ts rest : List Token) → IsChain Atom k last c ts rest → IsChain Atom (further n k) last c ts rest
 chain_up_to Atom zero k last c ts rest h = h
@@ -73,9 +82,16 @@ chain_from_sound Atom atom sound (suc n) k last left start ts x h e =
           let d = bind_some (joined left b.0.0 y.0.0) (λ both. chain_from atom n both b.0.1) x b.2 in
           let j = joined_is left b.0.0 y.0.0 d.0 d.1 in
           let both : IsPipe (IsChain Atom k) Atom last d.0 start b.0.1 = record {
-              left = left; at = y.0.0; mid = y.0.1; right = b.0.0; kind = j.0; fits = j.1; is = j.2;
-              first = subst (λ (r : List Token). IsChain Atom k last left start r) (pipe_stands ts y.0 y.1) h;
-              second = sound left.last y.0.1 b.0 b.1 } in
+            left = left;
+            at = y.0.0;
+            mid = y.0.1;
+            right = b.0.0;
+            kind = j.0;
+            fits = j.1;
+            is = j.2;
+            first = subst (λ (r : List Token). IsChain Atom k last left start r) (pipe_stands ts y.0 y.1) h;
+            second = sound left.last y.0.1 b.0 b.1;
+          } in
           chain_from_sound Atom atom sound n (suc k) last d.0 start b.0.1 x (inr both) d.2
       | inr y ↦ subst (λ (z : Part × List Token). IsChain Atom (further n (suc k)) last z.0 start z.1) (some_is (left, ts) x y.1) (chain_up_to Atom n (suc k) last left start ts (longer_chain Atom k last left start ts h))
     ]
@@ -115,10 +131,13 @@ chain_reached Atom atom reads never k n last c ts rest le (inl a) = (n, omega ar
 chain_reached Atom atom reads never zero n last c ts rest le (inr x) = absurd x.first
 chain_reached Atom atom reads never (suc k) n last c ts rest le (inr x) =
     let before = chain_reached Atom atom reads never k n last x.left ts (sign symbol.Pipe x.at ∷ x.mid) (omega arith) x.first in
-    let left_over : before.0 ≡ suc (before.0 - 1) = omega (arith, before.1) in
-    (before.0 - 1, omega (arith, before.1), before.2 ∙ ap (λ m. chain_from atom m x.left (sign symbol.Pipe x.at ∷ x.mid)) left_over
-        ∙ one_further atom (before.0 - 1) x.left x.right x.at x.kind x.mid rest (never x.left.last x.right x.mid rest x.second) (reads x.left.last x.right x.mid rest x.second) x.fits
-        ∙ ap (λ y. chain_from atom (before.0 - 1) y rest) (sym x.is))
+    let left_over : before.0 ≡ suc (before.0 - 1) = omega (arith, before.1) in (
+      before.0 - 1,
+      omega (arith, before.1),
+      before.2 ∙ ap (λ m. chain_from atom m x.left (sign symbol.Pipe x.at ∷ x.mid)) left_over
+          ∙ one_further atom (before.0 - 1) x.left x.right x.at x.kind x.mid rest (never x.left.last x.right x.mid rest x.second) (reads x.left.last x.right x.mid rest x.second) x.fits
+          ∙ ap (λ y. chain_from atom (before.0 - 1) y rest) (sym x.is),
+    )
 
 -- a chain that no `>>>` follows, or `>>> write`, is read
 chain_read : (Atom : Form) (atom : Reader) → Reads Atom atom → NeverWrite Atom → (last : ℕ) (c : Part) (ts rest : List Token) → IsChain Atom 8 last c ts rest → pipe_at rest ≡ None → chain_at atom last ts ≡ Some (c, rest)
@@ -147,19 +166,19 @@ atom_sound Inner inner sound last ts x e =
     elim (found_or (keyword_at keyword.Repeat ts) (λ x. repeat_at last x.0 x.1) in_parentheses x e) [
       | inl y ↦ let r = repeat_sound last y.0.0 y.0.1 x y.2 in repeats r.0 y.0.0 y.0.1 r.1 r.2 (keyword_stands keyword.Repeat ts y.0 y.1) r.3
       | inr y ↦ elim (found_or (sign_at symbol.LeftParenthesis ts) (λ x. inner last x.1 >>= λ y. sign_at symbol.RightParenthesis y.1 >>= λ z. Some (y.0, z.1)) a_block x y.1) [
-          | inl z ↦
-              let a = bind_some (inner last z.0.1) (λ y. sign_at symbol.RightParenthesis y.1 >>= λ z. Some (y.0, z.1)) x z.2 in
-              let b = bind_some (sign_at symbol.RightParenthesis a.0.1) (λ z. Some (a.0.0, z.1)) x a.2 in
-              let w : Part × List Token = (a.0.0, b.0.1) in
-              encloses z.0.0 b.0.0 z.0.1 (sign_stands symbol.LeftParenthesis ts z.0 z.1)
-              (subst (λ (v : Part × List Token). Inner last v.0 z.0.1 (sign symbol.RightParenthesis b.0.0 ∷ v.1)) (some_is w x b.2)
-              (subst (λ (r : List Token). Inner last a.0.0 z.0.1 r) (sign_stands symbol.RightParenthesis a.0.1 b.0 b.1) (sound last z.0.1 a.0 a.1)))
-          | inr z ↦
-              let a = bind_some (block_at last ts) (λ x. Some (record { what = x.0.what; kind = Computer; last = x.0.last }, x.1)) x z.1 in
-              let w : Part × List Token = (record { what = a.0.0.what; kind = Computer; last = a.0.0.last }, a.0.1) in
-              let same = some_is w x a.2 in
-              blocks a.0.0 (sym (ap (λ (v : Part × List Token). v.0) same)) (subst (λ (r : List Token). IsBlock last a.0.0 ts r) (ap (λ (v : Part × List Token). v.1) same) (block_sound last ts a.0 a.1))
-        ]
+        | inl z ↦
+            let a = bind_some (inner last z.0.1) (λ y. sign_at symbol.RightParenthesis y.1 >>= λ z. Some (y.0, z.1)) x z.2 in
+            let b = bind_some (sign_at symbol.RightParenthesis a.0.1) (λ z. Some (a.0.0, z.1)) x a.2 in
+            let w : Part × List Token = (a.0.0, b.0.1) in
+            encloses z.0.0 b.0.0 z.0.1 (sign_stands symbol.LeftParenthesis ts z.0 z.1)
+            (subst (λ (v : Part × List Token). Inner last v.0 z.0.1 (sign symbol.RightParenthesis b.0.0 ∷ v.1)) (some_is w x b.2)
+            (subst (λ (r : List Token). Inner last a.0.0 z.0.1 r) (sign_stands symbol.RightParenthesis a.0.1 b.0 b.1) (sound last z.0.1 a.0 a.1)))
+        | inr z ↦
+            let a = bind_some (block_at last ts) (λ x. Some (record { what = x.0.what; kind = Computer; last = x.0.last }, x.1)) x z.1 in
+            let w : Part × List Token = (record { what = a.0.0.what; kind = Computer; last = a.0.0.last }, a.0.1) in
+            let same = some_is w x a.2 in
+            blocks a.0.0 (sym (ap (λ (v : Part × List Token). v.0) same)) (subst (λ (r : List Token). IsBlock last a.0.0 ts r) (ap (λ (v : Part × List Token). v.1) same) (block_sound last ts a.0 a.1))
+      ]
     ]
 
 repeat_read : (last : ℕ) (at : Place) (b : Braced) (ts rest : List Token) → b.unit ≡ true → IsBlock last b ts rest

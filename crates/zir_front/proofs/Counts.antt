@@ -1,5 +1,5 @@
 -- A text has no more tokens than bytes.
-use Rattle.std.proofs.Common.{◌≡◌, ℕ, zero, suc, ◌+◌, ◌≤◌, ◌<◌, ◌⊎◌, inl, inr, List, [], ◌∷◌, ◌++◌, length, refl, sym, ap, ◌∙◌, lit<, length-append, arith}
+use Rattle.std.proofs.Common.{ℕ, ◌≤◌, ◌<◌, inl, inr, List, [], ◌∷◌, length, ap, lit<, length-append, arith}
 use Rattle.std.proofs.lemmas.List.Concat.{flat_map-cons}
 use Rattle.zir_tree.specs.declared.place.Place.{Place}
 use Rattle.zir_lex.specs.declared.token.Token.{Token}
@@ -11,7 +11,7 @@ use Rattle.zir_lex.specs.declared.token.Symbol.{Symbol}
 use Rattle.zir_lex.specs.declared.token.Symbol.TheVariants as symbol
 use Rattle.zir_lex.specs.Tables.{keyword_bytes, symbol_bytes}
 use Rattle.zir_lex.specs.Places.{place_past, first_place}
-use Rattle.zir_lex.specs.Spelling.{IsWord, Spells, Piece, White, Comment, Word, piece_bytes, IsPiece, text_of}
+use Rattle.zir_lex.specs.Spelling.{IsWord, Spells, Piece, White, Comment, Word, piece_bytes, text_of}
 use Rattle.zir_lex.specs.Tokens.{AreRead, tokens_from, Lexes}
 
 keyword_long : (w : Keyword) → 0 < length (keyword_bytes w)

@@ -1,5 +1,5 @@
 -- Two dashes side by side, by their place and by what stands around them.
-use Rattle.std.proofs.Common.{◌≡◌, ℕ, zero, suc, Bool, true, false, ◌+◌, ◌-◌, ◌≤◌, ◌<◌, List, [], ◌∷◌, ◌++◌, length, get_or, take, drop, refl, sym, ap, subst, ◌∙◌, length-append, arith}
+use Rattle.std.proofs.Common.{◌≡◌, ℕ, suc, Bool, true, false, ◌+◌, ◌-◌, ◌<◌, List, ◌∷◌, ◌++◌, length, get_or, take, drop, sym, ap, ◌∙◌, length-append, arith}
 use Rattle.std.proofs.lemmas.List.{take-append-drop, get_or-append-add}
 use Rattle.std.proofs.Math.Seq.{drop-cons}
 use Rattle.zir_front.specs.Program.{HasDashes}
@@ -19,8 +19,8 @@ dashes_found text none h =
     let last : at + 1 - 1 ≡ at + 0 = omega arith in
     let long : length text ≡ at + (2 + length h.1) = ap length h.2 ∙ length-append h.0 (45 ∷ 45 ∷ h.1) ∙ omega arith in
     none (at + 1) (omega arith) (omega (arith, long))
-        (ap (λ (bytes : List ℕ). get_or bytes (at + 1 - 1) 0) h.2 ∙ ap (λ (k : ℕ). get_or (h.0 ++ 45 ∷ 45 ∷ h.1) k 0) last ∙ get_or-append-add h.0 (45 ∷ 45 ∷ h.1) 0 0)
-        (ap (λ (bytes : List ℕ). get_or bytes (at + 1) 0) h.2 ∙ get_or-append-add h.0 (45 ∷ 45 ∷ h.1) 1 0)
+    (ap (λ (bytes : List ℕ). get_or bytes (at + 1 - 1) 0) h.2 ∙ ap (λ (k : ℕ). get_or (h.0 ++ 45 ∷ 45 ∷ h.1) k 0) last ∙ get_or-append-add h.0 (45 ∷ 45 ∷ h.1) 0 0)
+    (ap (λ (bytes : List ℕ). get_or bytes (at + 1) 0) h.2 ∙ get_or-append-add h.0 (45 ∷ 45 ∷ h.1) 1 0)
 
 -- a test that failed
 pub not_there : (text : List ℕ) (r : Bool) → r ≡ false → (HasDashes text → r ≡ true) → HasDashes text → ⊥

@@ -1,5 +1,5 @@
 -- Expressions: what is read is in the grammar, and what is in the grammar is read.
-use Rattle.std.proofs.Common.{◌≡◌, ℕ, zero, suc, ◌+◌, ◌-◌, ◌≤◌, ◌<◌, Bool, List, [], ◌∷◌, length, Option, Some, None, ◌⊎◌, inl, inr, refl, sym, ap, subst, ◌∙◌, arith}
+use Rattle.std.proofs.Common.{◌≡◌, ℕ, zero, suc, ◌+◌, ◌-◌, ◌≤◌, ◌<◌, List, [], ◌∷◌, length, Option, Some, None, inl, inr, refl, sym, ap, subst, ◌∙◌, arith}
 use Rattle.zir_tree.specs.declared.place.Place.{Place}
 use Rattle.zir_tree.specs.declared.tree.Ident.{Ident}
 use Rattle.zir_tree.specs.declared.tree.Expr.{Expr, Bit as BitValue, Variable, Xor}
@@ -9,8 +9,8 @@ use Rattle.zir_lex.specs.declared.token.Lexeme.TheVariants as lexeme
 use Rattle.zir_lex.specs.declared.token.Symbol.{Symbol}
 use Rattle.zir_lex.specs.declared.token.Symbol.TheVariants as symbol
 use Rattle.zir_front.specs.Grammar.{token, sign, number_of, IsPrimary, names, bits, IsXor, IsOperands, IsExpr}
-use Rattle.zir_front.specs.Reading.{◌>>=◌, if_found, sign_at, primary_in, primary_at, operands_from, expr_at}
-use Rattle.zir_front.proofs.Tools.{bind_some, found_or, guard_some, some_is, none_is}
+use Rattle.zir_front.specs.Reading.{◌>>=◌, sign_at, primary_in, primary_at, operands_from, expr_at}
+use Rattle.zir_front.proofs.Tools.{bind_some, found_or, some_is, none_is}
 use Rattle.zir_front.proofs.Words.{sign_stands, sign_read}
 
 -- so many further ones
@@ -65,9 +65,14 @@ operands_sound (suc n) k scope left start ts x h e =
       | inl y ↦
           let b = bind_some (primary_at scope y.0.1) (λ z. operands_from n scope (Xor left z.0 y.0.0) z.1) x y.2 in
           let both : IsXor (IsOperands k scope) scope (Xor left b.0.0 y.0.0) start b.0.1 = record {
-              left = left; at = y.0.0; mid = y.0.1; right = b.0.0; is = refl;
-              first = subst (λ (r : List Token). IsOperands k scope left start r) (sign_stands symbol.Caret ts y.0 y.1) h;
-              second = primary_sound scope y.0.1 b.0 b.1 } in
+            left = left;
+            at = y.0.0;
+            mid = y.0.1;
+            right = b.0.0;
+            is = refl;
+            first = subst (λ (r : List Token). IsOperands k scope left start r) (sign_stands symbol.Caret ts y.0 y.1) h;
+            second = primary_sound scope y.0.1 b.0 b.1;
+          } in
           operands_sound n (suc k) scope (Xor left b.0.0 y.0.0) start b.0.1 x (inr both) b.2
       | inr y ↦ subst (λ (z : Expr × List Token). IsOperands (further n (suc k)) scope z.0 start z.1) (some_is (left, ts) x y.1) (operands_up_to n (suc k) scope left start ts (more_operands k scope left start ts h))
     ]
@@ -100,9 +105,12 @@ operands_reached k n scope e ts rest le (inl p) = (n, omega arith, ap (λ r. r >
 operands_reached zero n scope e ts rest le (inr x) = absurd x.first
 operands_reached (suc k) n scope e ts rest le (inr x) =
     let before = operands_reached k n scope x.left ts (sign symbol.Caret x.at ∷ x.mid) (omega arith) x.first in
-    let left_over : before.0 ≡ suc (before.0 - 1) = omega (arith, before.1) in
-    (before.0 - 1, omega (arith, before.1), before.2 ∙ ap (λ m. operands_from m scope x.left (sign symbol.Caret x.at ∷ x.mid)) left_over
-        ∙ one_further (before.0 - 1) scope x.left x.right x.at x.mid rest x.second ∙ ap (λ y. operands_from (before.0 - 1) scope y rest) (sym x.is))
+    let left_over : before.0 ≡ suc (before.0 - 1) = omega (arith, before.1) in (
+      before.0 - 1,
+      omega (arith, before.1),
+      before.2 ∙ ap (λ m. operands_from m scope x.left (sign symbol.Caret x.at ∷ x.mid)) left_over
+          ∙ one_further (before.0 - 1) scope x.left x.right x.at x.mid rest x.second ∙ ap (λ y. operands_from (before.0 - 1) scope y rest) (sym x.is),
+    )
 
 -- an expression that no `^` follows is read
 pub expr_read : (scope : List Ident) (e : Expr) (ts rest : List Token) → IsExpr scope e ts rest → sign_at symbol.Caret rest ≡ None → expr_at scope ts ≡ Some (e, rest)

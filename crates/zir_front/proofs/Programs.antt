@@ -1,5 +1,5 @@
 -- Programs: what is read is a program, and a program is read.
-use Rattle.std.proofs.Common.{rules, ◌≡◌, ℕ, zero, suc, Bool, true, false, cond, List, [], ◌∷◌, ◌++◌, length, Option, Some, None, refl, sym, ap, subst, ◌∙◌}
+use Rattle.std.proofs.Common.{◌≡◌, ℕ, true, cond, List, [], ◌∷◌, ◌++◌, Some, None, refl, sym, ap, subst, ◌∙◌}
 use Rattle.std.specs.Prelude.{codes}
 use Rattle.std.specs.Str.{bytes_eq}
 use Rattle.std.proofs.lemmas.Slice.Eq.{bytes_eq-Decides}
@@ -13,7 +13,7 @@ use Rattle.zir_lex.specs.declared.token.Keyword.{Keyword}
 use Rattle.zir_lex.specs.declared.token.Keyword.TheVariants as keyword
 use Rattle.zir_lex.specs.declared.token.Symbol.TheVariants as symbol
 use Rattle.zir_front.specs.declared.part.Part.{Part}
-use Rattle.zir_front.specs.Grammar.{token, sign, word, Are, head, tail, IsMain, IsProg}
+use Rattle.zir_front.specs.Grammar.{token, sign, word, Are, head, tail, IsProg}
 use Rattle.zir_front.specs.Reading.{◌>>=◌, sign_at, keyword_at, name_at, pipe_at, bits_at, head_at, at_end, main_at, program_at}
 use Rattle.zir_front.proofs.Tools.{bind_some, guard_some, some_is, none_is}
 use Rattle.zir_front.proofs.Words.{sign_stands, sign_read, keyword_stands, keyword_read, name_stands, name_read}
@@ -37,9 +37,14 @@ bits_stand w ts rest e =
     let p' = keyword_stands w ts p.0 p.1 in
     let q' = sign_stands symbol.LeftBracket p.0.1 q.0 q.1 in
     let r' = keyword_stands keyword.Bit q.0.1 r.0 r.1 in
-    let s' = sign_stands symbol.RightBracket r.0.1 s.0 s.1 in
-    (p.0.0, q.0.0, r.0.0, s.0.0, p' ∙ ap (λ (v : List Token). word w p.0.0 ∷ v) (q' ∙ ap (λ (v : List Token). sign symbol.LeftBracket q.0.0 ∷ v) (r' ∙ ap (λ (v : List Token). word keyword.Bit r.0.0 ∷ v)
-        (s' ∙ ap (λ (v : List Token). sign symbol.RightBracket s.0.0 ∷ v) (some_is s.0.1 rest s.2)))))
+    let s' = sign_stands symbol.RightBracket r.0.1 s.0 s.1 in (
+      p.0.0,
+      q.0.0,
+      r.0.0,
+      s.0.0,
+      p' ∙ ap (λ (v : List Token). word w p.0.0 ∷ v) (q' ∙ ap (λ (v : List Token). sign symbol.LeftBracket q.0.0 ∷ v) (r' ∙ ap (λ (v : List Token). word keyword.Bit r.0.0 ∷ v)
+          (s' ∙ ap (λ (v : List Token). sign symbol.RightBracket s.0.0 ∷ v) (some_is s.0.1 rest s.2)))),
+    )
 
 bits_read : (w : Keyword) (a b c d : Place) (rest : List Token) → bits_at w (stream_tokens w a b c d rest) ≡ Some rest
 unfolding bits_at
@@ -47,7 +52,6 @@ bits_read w a b c d rest = rw (keyword_read w a (sign symbol.LeftBracket b ∷ w
 
 name_is : (name : List ℕ) → bytes_eq name (codes "main") ≡ true → name ≡ codes "main"
 name_is name e = (bytes_eq-Decides name (codes "main")).0 e
-
 
 -- the places of the tokens before the component
 record Places : Type 0 where
@@ -82,22 +86,25 @@ head_stands ts rest e =
     let named : c.0.0 ≡ codes "main" = name_is c.0.0 g.0 in
     let d' = sign_stands symbol.Equal c.0.2 d.0 d.1 in
     let f' = bits_stand keyword.Read d.0.1 f.0 f.1 in
-    let h' = sign_stands symbol.Pipe f.0 h.0 h.1 in
-    (record { p1 = a.0.0; p2 = b.0.0; p3 = c.0.1; p4 = d.0.0; p5 = f'.0; p6 = f'.1; p7 = f'.2; p8 = f'.3; p9 = h.0.0 },
-     a' ∙ ap (λ (v : List Token). word keyword.Let a.0.0 ∷ v) (b' ∙ ap (λ (v : List Token). word keyword.Comp b.0.0 ∷ v)
-     (c' ∙ ap (λ (n : List ℕ). token (lexeme.Name n) c.0.1 ∷ c.0.2) named ∙ ap (λ (v : List Token). token (lexeme.Name (codes "main")) c.0.1 ∷ v)
-     (d' ∙ ap (λ (v : List Token). sign symbol.Equal d.0.0 ∷ v) (f'.4 ∙ ap (λ (v : List Token). stream_tokens keyword.Read f'.0 f'.1 f'.2 f'.3 v)
-     (h' ∙ ap (λ (v : List Token). sign symbol.Pipe h.0.0 ∷ v) (some_is h.0.1 rest h.2)))))))
+    let h' = sign_stands symbol.Pipe f.0 h.0 h.1 in (
+      record { p1 = a.0.0; p2 = b.0.0; p3 = c.0.1; p4 = d.0.0; p5 = f'.0; p6 = f'.1; p7 = f'.2; p8 = f'.3; p9 = h.0.0 },
+      a' ∙ ap (λ (v : List Token). word keyword.Let a.0.0 ∷ v) (b' ∙ ap (λ (v : List Token). word keyword.Comp b.0.0 ∷ v)
+          (c' ∙ ap (λ (n : List ℕ). token (lexeme.Name n) c.0.1 ∷ c.0.2) named ∙ ap (λ (v : List Token). token (lexeme.Name (codes "main")) c.0.1 ∷ v)
+          (d' ∙ ap (λ (v : List Token). sign symbol.Equal d.0.0 ∷ v) (f'.4 ∙ ap (λ (v : List Token). stream_tokens keyword.Read f'.0 f'.1 f'.2 f'.3 v)
+          (h' ∙ ap (λ (v : List Token). sign symbol.Pipe h.0.0 ∷ v) (some_is h.0.1 rest h.2)))))),
+    )
 
 head_read : (p : Places) (rest : List Token) → head_at (head_tokens p ++ rest) ≡ Some rest
 unfolding head_at
 head_read p rest =
-    rw (keyword_read keyword.Let p.p1 (word keyword.Comp p.p2 ∷ token (lexeme.Name (codes "main")) p.p3 ∷ sign symbol.Equal p.p4 ∷ stream_tokens keyword.Read p.p5 p.p6 p.p7 p.p8 (sign symbol.Pipe p.p9 ∷ rest)),
-        keyword_read keyword.Comp p.p2 (token (lexeme.Name (codes "main")) p.p3 ∷ sign symbol.Equal p.p4 ∷ stream_tokens keyword.Read p.p5 p.p6 p.p7 p.p8 (sign symbol.Pipe p.p9 ∷ rest)),
-        name_read (codes "main") p.p3 (sign symbol.Equal p.p4 ∷ stream_tokens keyword.Read p.p5 p.p6 p.p7 p.p8 (sign symbol.Pipe p.p9 ∷ rest)),
-        sign_read symbol.Equal p.p4 (stream_tokens keyword.Read p.p5 p.p6 p.p7 p.p8 (sign symbol.Pipe p.p9 ∷ rest)),
-        bits_read keyword.Read p.p5 p.p6 p.p7 p.p8 (sign symbol.Pipe p.p9 ∷ rest),
-        sign_read symbol.Pipe p.p9 rest) refl
+    rw (
+      keyword_read keyword.Let p.p1 (word keyword.Comp p.p2 ∷ token (lexeme.Name (codes "main")) p.p3 ∷ sign symbol.Equal p.p4 ∷ stream_tokens keyword.Read p.p5 p.p6 p.p7 p.p8 (sign symbol.Pipe p.p9 ∷ rest)),
+      keyword_read keyword.Comp p.p2 (token (lexeme.Name (codes "main")) p.p3 ∷ sign symbol.Equal p.p4 ∷ stream_tokens keyword.Read p.p5 p.p6 p.p7 p.p8 (sign symbol.Pipe p.p9 ∷ rest)),
+      name_read (codes "main") p.p3 (sign symbol.Equal p.p4 ∷ stream_tokens keyword.Read p.p5 p.p6 p.p7 p.p8 (sign symbol.Pipe p.p9 ∷ rest)),
+      sign_read symbol.Equal p.p4 (stream_tokens keyword.Read p.p5 p.p6 p.p7 p.p8 (sign symbol.Pipe p.p9 ∷ rest)),
+      bits_read keyword.Read p.p5 p.p6 p.p7 p.p8 (sign symbol.Pipe p.p9 ∷ rest),
+      sign_read symbol.Pipe p.p9 rest,
+    ) refl
 
 -- the first of tokens that are these lexemes
 are_cons : (w : Lexeme) (ws : List Lexeme) (ts : List Token) → Are (w ∷ ws) ts → (at : Place) × (more : List Token) × (ts ≡ token w at ∷ more) × Are ws more
@@ -128,11 +135,12 @@ head_are ts h =
     let c = are_cons (lexeme.Name (codes "main")) (lexeme.Symbol symbol.Equal ∷ reading) b.1 b.3 in
     let d = are_cons (lexeme.Symbol symbol.Equal) reading c.1 c.3 in
     let f = stream_are keyword.Read after_read d.1 d.3 in
-    let g = are_cons (lexeme.Symbol symbol.Pipe) [] f.4 f.6 in
-    (record { p1 = a.0; p2 = b.0; p3 = c.0; p4 = d.0; p5 = f.0; p6 = f.1; p7 = f.2; p8 = f.3; p9 = g.0 },
-     a.2 ∙ ap (λ (v : List Token). word keyword.Let a.0 ∷ v) (b.2 ∙ ap (λ (v : List Token). word keyword.Comp b.0 ∷ v)
-     (c.2 ∙ ap (λ (v : List Token). token (lexeme.Name (codes "main")) c.0 ∷ v) (d.2 ∙ ap (λ (v : List Token). sign symbol.Equal d.0 ∷ v)
-     (f.5 ∙ ap (λ (v : List Token). stream_tokens keyword.Read f.0 f.1 f.2 f.3 v) (g.2 ∙ ap (λ (v : List Token). sign symbol.Pipe g.0 ∷ v) (are_nil g.1 g.3)))))))
+    let g = are_cons (lexeme.Symbol symbol.Pipe) [] f.4 f.6 in (
+      record { p1 = a.0; p2 = b.0; p3 = c.0; p4 = d.0; p5 = f.0; p6 = f.1; p7 = f.2; p8 = f.3; p9 = g.0 },
+      a.2 ∙ ap (λ (v : List Token). word keyword.Let a.0 ∷ v) (b.2 ∙ ap (λ (v : List Token). word keyword.Comp b.0 ∷ v)
+          (c.2 ∙ ap (λ (v : List Token). token (lexeme.Name (codes "main")) c.0 ∷ v) (d.2 ∙ ap (λ (v : List Token). sign symbol.Equal d.0 ∷ v)
+          (f.5 ∙ ap (λ (v : List Token). stream_tokens keyword.Read f.0 f.1 f.2 f.3 v) (g.2 ∙ ap (λ (v : List Token). sign symbol.Pipe g.0 ∷ v) (are_nil g.1 g.3)))))),
+    )
 
 -- the tokens after the component
 abbrev tail_tokens : Place → Place → Place → Place → Place → List Token
@@ -166,10 +174,16 @@ program_sound ts p e =
     let d' = bits_stand keyword.Write c.0.1 d.0 d.1 in
     let after : b.0.1 ≡ sign symbol.Pipe c.0.0 ∷ stream_tokens keyword.Write d'.0 d'.1 d'.2 d'.3 [] = c' ∙ ap (λ (v : List Token). sign symbol.Pipe c.0.0 ∷ v) (d'.4 ∙ ap (λ (v : List Token). stream_tokens keyword.Write d'.0 d'.1 d'.2 d'.3 v) ended.0) in
     record {
-      before = head_tokens places.0; from = a.0; after = b.0.1; main = b.0.0; is = ended.1; whole = places.1;
+      before = head_tokens places.0;
+      from = a.0;
+      after = b.0.1;
+      main = b.0.0;
+      is = ended.1;
+      whole = places.1;
       head = (refl, (refl, (refl, (refl, (refl, (refl, (refl, (refl, (refl, tt)))))))));
       component = main_sound 9 0 a.0 b.0 b.1;
-      tail = subst (λ (v : List Token). Are tail v) (sym after) (refl, (refl, (refl, (refl, (refl, tt))))) }
+      tail = subst (λ (v : List Token). Are tail v) (sym after) (refl, (refl, (refl, (refl, (refl, tt)))));
+    }
 
 -- a program is read
 pub program_read : (ts : List Token) (p : Prog) → IsProg ts p → program_at ts ≡ Some p

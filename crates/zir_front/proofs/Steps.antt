@@ -1,9 +1,9 @@
 -- One turn of each loop, as reading has it.
-use Rattle.std.proofs.Common.{◌≡◌, ℕ, zero, suc, ◌+◌, ◌-◌, ◌<◌, ◌≤◌, Bool, List, [], ◌∷◌, ◌++◌, length, Option, Some, None, refl, sym, ap, ◌∙◌, arith}
+use Rattle.std.proofs.Common.{◌≡◌, ℕ, suc, ◌+◌, ◌-◌, ◌<◌, Bool, List, [], ◌∷◌, ◌++◌, Option, Some, None, refl, sym, ap, ◌∙◌, arith}
 use Rattle.zir_tree.specs.declared.place.Place.{Place}
 use Rattle.zir_tree.specs.declared.tree.Ident.{Ident}
 use Rattle.zir_tree.specs.declared.tree.Expr.{Expr, Xor}
-use Rattle.zir_tree.specs.declared.tree.Comp.{Comp, Block}
+use Rattle.zir_tree.specs.declared.tree.Comp.{Block}
 use Rattle.zir_tree.specs.declared.tree.Member.{Member}
 use Rattle.zir_lex.specs.declared.token.Token.{Token}
 use Rattle.zir_lex.specs.declared.token.Keyword.TheVariants as keyword
@@ -12,7 +12,6 @@ use Rattle.zir_front.specs.declared.error.FrontError.{FrontError}
 use Rattle.zir_front.specs.declared.error.FrontError.TheVariants.{Refused, Memory}
 use Rattle.zir_front.specs.declared.part.Part.{Part}
 use Rattle.zir_front.specs.declared.part.Braced.{Braced}
-use Rattle.zir_front.specs.declared.part.Turn.{Turn}
 use Rattle.zir_front.specs.declared.part.Turn.TheVariants.{More, Last}
 use Rattle.zir_front.specs.Grammar.{names_of, last_after}
 use Rattle.zir_front.specs.Reading.{◌>>=◌, Fails, Reader, sign_at, keyword_at, primary_at, operands_from, turn_at, after_turn, members_from, pipe_at, joined, chain_from, atom_at, main_at, atom_in}
@@ -31,13 +30,6 @@ members_go_on : (n i : ℕ) (at : Place) (members : List Member) (scope : List I
 unfolding members_from
 members_go_on n i at members scope last ts lt =
     let k : n - i ≡ suc (n - (i + 1)) = omega arith in rw k refl
-
--- no turn is left
-pub members_end : (n i : ℕ) (at : Place) (members : List Member) (scope : List Ident) (last : ℕ) (ts : List Token) → n ≤ i
-    → members_from (n - i) at members scope last ts ≡ None
-unfolding members_from
-members_end n i at members scope last ts le =
-    let k : n - i ≡ 0 = omega arith in rw k refl
 
 -- a turn that is not read is not read in its block
 pub turn_fails : (e : FrontError) (n i : ℕ) (at : Place) (members : List Member) (scope : List Ident) (last : ℕ) (ts : List Token) (total : Option (Braced × List Token)) → i < n

@@ -1,5 +1,5 @@
 -- What a reading that succeeded went through.
-use Rattle.std.proofs.Common.{◌≡◌, ℕ, zero, suc, Bool, true, false, cond, Option, Some, None, ◌⊎◌, inl, inr, refl, sym, ap, ◌∙◌}
+use Rattle.std.proofs.Common.{◌≡◌, Bool, true, false, cond, Option, Some, None, ◌⊎◌, inl, inr, refl}
 use Rattle.zir_front.specs.Reading.{◌>>=◌, if_found}
 
 -- the value of a step that was read

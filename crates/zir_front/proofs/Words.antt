@@ -1,6 +1,6 @@
 -- Single tokens: what is read stands there, and what stands there is read.
-use Rattle.std.proofs.Common.{rules, ◌≡◌, ℕ, Bool, true, false, cond, List, [], ◌∷◌, Option, Some, None, refl, sym, ap, subst, ◌∙◌}
-use denote.Enum.Bare.{sameb, same_true, true_same}
+use Rattle.std.proofs.Common.{rules, ◌≡◌, ℕ, true, List, [], ◌∷◌, Some, refl, ap, ◌∙◌}
+use denote.Enum.Bare.{same_true, true_same}
 use Rattle.zir_tree.specs.declared.place.Place.{Place}
 use Rattle.zir_lex.specs.declared.token.Token.{Token}
 use Rattle.zir_lex.specs.declared.token.Lexeme.{Lexeme}
@@ -10,7 +10,7 @@ use Rattle.zir_lex.specs.declared.token.Symbol.{Symbol}
 use Rattle.zir_lex.specs.contracts.token.Keyword.{the_type as the_keyword}
 use Rattle.zir_lex.specs.contracts.token.Symbol.{the_type as the_symbol}
 use Rattle.zir_front.specs.Grammar.{token, sign, word}
-use Rattle.zir_front.specs.Reading.{◌>>=◌, is_sign, is_keyword, name_in, sign_at, keyword_at, name_at}
+use Rattle.zir_front.specs.Reading.{is_sign, is_keyword, name_in, sign_at, keyword_at, name_at}
 use Rattle.zir_front.proofs.Tools.{bind_some, guard_some, some_is, none_is}
 
 -- ---- signs

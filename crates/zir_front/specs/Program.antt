@@ -1,5 +1,5 @@
 -- Which text is which program.
-use Rattle.std.specs.Prelude.{◌≡◌, ℕ, ◌≤◌, List, ◌∷◌, ◌++◌, length, codes}
+use Rattle.std.specs.Prelude.{◌≡◌, ℕ, ◌≤◌, List, ◌++◌, length, codes}
 use Rattle.zir_tree.specs.declared.tree.Prog.{Prog}
 use Rattle.zir_lex.specs.declared.token.Token.{Token}
 use Rattle.zir_lex.specs.Tokens.{Lexes}

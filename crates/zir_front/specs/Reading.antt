@@ -22,7 +22,6 @@ use Rattle.zir_lex.specs.declared.lexer.LexError.{LexError}
 use Rattle.zir_lex.specs.declared.lexer.LexError.TheVariants as lex_error
 use Rattle.zir_front.specs.declared.error.FrontError.{FrontError}
 use Rattle.zir_front.specs.declared.error.FrontError.TheVariants.{Refused, Memory}
-use Rattle.zir_front.specs.declared.part.Kind.{Kind}
 use Rattle.zir_front.specs.declared.part.Kind.TheVariants.{Computer, Transformer}
 use Rattle.zir_front.specs.declared.part.Part.{Part}
 use Rattle.zir_front.specs.declared.part.Braced.{Braced}

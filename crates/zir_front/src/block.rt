@@ -63,11 +63,7 @@ fn give_back<'a>(
 
 /// A name that is bound to the next element.
 #[tactic(auto, unfolding(crate::specs::Reading::binding_at))]
-fn binding(
-    alloc: Global,
-    last: u32,
-    tokens: &[Token],
-) -> Result<(Turn, &[Token]), FrontError>
+fn binding(alloc: Global, last: u32, tokens: &[Token]) -> Result<(Turn, &[Token]), FrontError>
     requires { last + length tokens.now < 2 ^ 32 }
     ensures read { Gives (λ x. (x.0, x.1.now)) result (binding_at last tokens.now) }
     ensures few { IfOk result (λ x. turn_last last x.0 + length x.1.now < last + length tokens.now) }
@@ -132,11 +128,7 @@ fn enter(
 
 /// A block at the front, with the number of the last binding before it.
 #[tactic(auto, unfolding(crate::specs::Reading::block_at, crate::specs::Reading::members_from))]
-pub fn block(
-    alloc: Global,
-    last: u32,
-    tokens: &[Token],
-) -> Result<(Braced, &[Token]), FrontError>
+pub fn block(alloc: Global, last: u32, tokens: &[Token]) -> Result<(Braced, &[Token]), FrontError>
     requires { last + length tokens.now < 2 ^ 32 }
     ensures read { Gives (λ x. (x.0, x.1.now)) result (block_at last tokens.now) }
     ensures few { IfOk result (λ x. x.0.last + length x.1.now < last + length tokens.now) }

@@ -52,7 +52,11 @@ fn join(alloc: Global, left: Part, right: Part, at: Place) -> Result<Part, Front
 {
     let kind = kind_of(left.kind, right.kind).ok_or(FrontError::Refused)?;
     let last = right.last;
-    let what = Comp::Pipe(Boxed::new(alloc, left.what)?, Boxed::new(alloc, right.what)?, at);
+    let what = Comp::Pipe(
+        Boxed::new(alloc, left.what)?,
+        Boxed::new(alloc, right.what)?,
+        at,
+    );
     Ok(Part { what, kind, last })
 }
 

@@ -1,4 +1,4 @@
-use Rattle.std.proofs.Common.{◌≡◌, ◌∙◌, ap, Some, length, arith}
+use Rattle.std.proofs.Common.{◌≡◌, ap, Some, length, arith}
 use Rattle.std.proofs.lemmas.Result.{err_from_is_err_and}
 use Rattle.zir_front.specs.declared.part.Turn.TheVariants.{More, Last}
 use Rattle.zir_front.specs.Grammar.{last_after}

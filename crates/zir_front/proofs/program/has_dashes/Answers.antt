@@ -1,4 +1,4 @@
-use Rattle.std.proofs.Common.{refl, ℕ, ◌<◌, arith}
+use Rattle.std.proofs.Common.{refl, arith}
 use Rattle.zir_front.proofs.Dashes.{dashes_stand, dashes_found}
 use Rattle.zir_front.proofs.program.has_dashes.Goals as goal
 

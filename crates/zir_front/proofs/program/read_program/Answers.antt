@@ -1,6 +1,5 @@
-use Rattle.std.proofs.Common.{◌≡◌, refl, ap, ◌∙◌, length, arith}
+use Rattle.std.proofs.Common.{refl, ap, ◌∙◌, length, arith}
 use Rattle.std.proofs.lemmas.Result.{err_from_is_err_and}
-use Rattle.zir_lex.specs.Tokens.{Lexes}
 use Rattle.zir_front.proofs.Dashes.{not_there}
 use Rattle.zir_front.proofs.Counts.{tokens_few}
 use Rattle.zir_front.proofs.Answered.{answer_ok, answer_only, answer_failed, not_refused}
