@@ -1,10 +1,10 @@
 -- What a reader of bits gives, by what its reader of bytes gives.
-use Rattle.std.proofs.Common.{ℕ, zero, suc, ◌+◌, ◌-◌, ◌/◌, ◌%◌, ◌<◌, ◌≤◌, ◌≡◌, Bool, true, false, List, [], ◌∷◌, ◌++◌, Option, Some, None, Result, Ok, Err, length, take, drop, get_or, refl, ap, sym, ◌∙◌, arith, append_assoc, drop-cons, add-one}
+use Rattle.std.proofs.Common.{ℕ, suc, ◌+◌, ◌-◌, ◌/◌, ◌%◌, ◌<◌, ◌≤◌, ◌≡◌, Bool, true, false, List, [], ◌∷◌, ◌++◌, Option, Some, None, Ok, Err, length, get_or, refl, ap, sym, ◌∙◌, arith, append_assoc, drop-cons, add-one, length-append}
 use Rattle.std.specs.Prelude.{if◌then◌else◌, nat_eq, slice_range}
 use Rattle.zir_meaning.specs.Samples.{bits_of, low_bits}
 use Rattle.zir_outside.specs.declared.Failed.{Failed}
-use Rattle.zir_samples.specs.Reading.{bits_to_come, bytes_to_come, Gives, GivesBit, GivesByte, KeptBits, KeptBytes}
-use Rattle.zir_samples.proofs.Spelling.{bits-append}
+use Rattle.zir_samples.specs.Reading.{bits_to_come, bytes_to_come, GivesBit, GivesByte, KeptBits, KeptBytes}
+use Rattle.zir_samples.proofs.Spelling.{bits-append, length-bits_of, length-low_bits}
 
 -- the first of a part of a piece
 pub part-cons : (piece : List ℕ) (from to : ℕ) → from < to → to ≤ length piece → slice_range piece from to ≡ get_or piece from 0 ∷ slice_range piece (from + 1) to
@@ -50,3 +50,7 @@ gives_none old new (Some bytes) now h = (h.0, h.1, (bits-to_come old bytes ∙ a
 pub gives_first : (old new : KeptBytes) (left now : Option (List ℕ)) (b : ℕ) → GivesByte old left new now (Ok (Some b)) → GivesBit (bits_from old) left (record { bits = low_bits 7 (b / 2) ++ bits_of new.bytes; ended = new.ended; failed = new.failed }) now (Ok (Some (nat_eq (b % 2) 1)))
 gives_first old new None now b h = h
 gives_first old new (Some bytes) now b h = (h.0, h.1, bits-to_come old bytes ∙ ap bits_of h.2 ∙ ap (λ bits. low_bits 8 b ++ bits) (sym (bits-to_come new h.0)) ∙ sym (append_assoc (low_bits 8 b) (bits_of new.bytes) (if new.ended then [] else bits_of h.0)))
+
+-- less than a byte and less than a piece are less than a piece in bits
+pub few_bits : (k n : ℕ) (bytes : List ℕ) → k ≤ 7 → length bytes ≤ 4095 → length (low_bits k n ++ bits_of bytes) < 32768
+few_bits k n bytes few short = rw length-append (omega (arith, length-low_bits k n, length-bits_of bytes))

@@ -1,8 +1,8 @@
 -- Bits and bytes, and what bits spell.
-use Rattle.std.proofs.Common.{ℕ, zero, suc, ◌+◌, ◌-◌, ◌*◌, ◌/◌, ◌%◌, ◌^◌, ◌<◌, ◌≤◌, ◌≡◌, Bool, true, false, cond, List, [], ◌∷◌, ◌++◌, length, refl, ap, sym, ◌∙◌, subst, arith, append_assoc, pow-suc}
+use Rattle.std.proofs.Common.{ℕ, zero, suc, ◌+◌, ◌*◌, ◌/◌, ◌%◌, ◌^◌, ◌<◌, ◌≤◌, ◌≡◌, Bool, true, false, List, [], ◌∷◌, ◌++◌, length, refl, ap, sym, ◌∙◌, arith, append_assoc, pow-suc}
 use Rattle.std.specs.Prelude.{All, if◌then◌else◌, nat_eq}
 use Rattle.std.proofs.lemmas.Bool.Decides.{nat_tests}
-use Rattle.zir_meaning.specs.Samples.{bits_of, last_byte, low_bits, number_of, spell_bits}
+use Rattle.zir_meaning.specs.Samples.{bits_of, low_bits, number_of, spell_bits}
 
 -- whether a number is odd, as a number
 odd-number : (n : ℕ) → (if nat_eq (n % 2) 1 then 1 else 0) ≡ n % 2

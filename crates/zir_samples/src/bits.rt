@@ -1,6 +1,6 @@
 //! Bits of a source, one at a time.
 
-ghost use Rattle.std.specs.Prelude.{◌≡◌, ◌≢◌, [], IfOk, IsTrue, false, is_err};
+ghost use Rattle.std.specs.Prelude.{◌≡◌, ◌≢◌, ◌<◌, [], length, IfOk, IsTrue, false, is_err};
 ghost use Rattle.zir_outside.specs.Causes.{HasCause};
 ghost use Rattle.zir_samples.specs.Reading.{GivesBit, is_end, no_bits};
 
@@ -19,7 +19,7 @@ pub struct BitReader {
 }
 
 impl Model for BitReader {
-    ghost use Rattle.std.specs.Prelude.{◌≡◌, ◌≤◌, ◌++◌, IsTrue};
+    ghost use Rattle.std.specs.Prelude.{◌≡◌, ◌≤◌, ◌++◌, IsTrue, length};
     ghost use Rattle.zir_meaning.specs.Samples.{bits_of, low_bits};
     ghost use Rattle.zir_samples.specs.Reading.{KeptBits};
 
@@ -27,7 +27,7 @@ impl Model for BitReader {
 
     ghost view = { λ r. record { bits = low_bits r.count r.byte ++ bits_of r.bytes.bytes; ended = r.bytes.ended; failed = r.bytes.failed } };
 
-    ghost invariant = { λ r. (r.count ≤ 8) × (IsTrue r.bytes.ended → r.count ≡ 0) };
+    ghost invariant = { λ r. (r.count ≤ 7) × (length r.bytes.bytes ≤ 4095) × (IsTrue r.bytes.ended → r.count ≡ 0) };
 }
 
 impl BitReader {
@@ -52,6 +52,7 @@ impl BitReader {
         ensures cause { HasCause (S.faults source.old) (S.faults source.new) result }
         ensures kept { self.old.bits ≢ [] → source.new ≡ source.old }
         ensures over { IsTrue self.old.ended → source.new ≡ source.old }
+        ensures within { length self.new.bits < 32768 }
     {
         if self.count > 0 {
             let bit = self.byte % 2 == 1;

@@ -1,6 +1,6 @@
 //! Bytes of a source, one at a time.
 
-ghost use Rattle.std.specs.Prelude.{◌≡◌, ◌≢◌, [], IfOk, IsTrue, false, is_err};
+ghost use Rattle.std.specs.Prelude.{◌≡◌, ◌≢◌, ◌≤◌, [], length, IfOk, IsTrue, false, is_err};
 ghost use Rattle.zir_outside.specs.Causes.{HasCause};
 ghost use Rattle.zir_samples.specs.Reading.{GivesByte, is_end, no_bytes};
 
@@ -20,14 +20,14 @@ pub struct ByteReader {
 }
 
 impl Model for ByteReader {
-    ghost use Rattle.std.specs.Prelude.{◌≡◌, ◌≤◌, IsTrue, length, slice_range};
+    ghost use Rattle.std.specs.Prelude.{◌+◌, ◌≡◌, ◌≤◌, IsTrue, length, slice_range};
     ghost use Rattle.zir_samples.specs.Reading.{KeptBytes};
 
     ghost Value = { KeptBytes };
 
     ghost view = { λ r. record { bytes = slice_range r.piece.items r.at r.filled; ended = r.ended; failed = r.failed } };
 
-    ghost invariant = { λ r. (length r.piece.items ≡ 4096) × (r.at ≤ r.filled) × (r.filled ≤ 4096) × (IsTrue r.ended → r.at ≡ r.filled) };
+    ghost invariant = { λ r. (length r.piece.items ≡ 4096) × (r.at ≤ r.filled) × (r.filled ≤ 4096) × (r.filled ≤ r.at + 4095) × (IsTrue r.ended → r.at ≡ r.filled) };
 }
 
 impl ByteReader {
@@ -54,6 +54,7 @@ impl ByteReader {
         ensures cause { HasCause (S.faults source.old) (S.faults source.new) result }
         ensures kept { self.old.bytes ≢ [] → source.new ≡ source.old }
         ensures over { IsTrue self.old.ended → source.new ≡ source.old }
+        ensures within { length self.new.bytes ≤ 4095 }
     {
         if self.at < self.filled {
             let byte = self.piece[self.at];

@@ -3,8 +3,8 @@ ghost use Rattle.std.specs.Prelude.{◌≡◌, ◌≤◌, false};
 use crate::{BitReader, BitWriter};
 use std::alloc::{AllocError, Global};
 use std::test::Fail;
-use zir_outside::memory::{MemSink, MemSource};
 use zir_outside::Failed;
+use zir_outside::memory::{MemSink, MemSource};
 
 // Copies so many bits, or as many as there are, and says how many.
 fn copy(
@@ -67,14 +67,32 @@ fn copied(
 fn the_same_bits_in_any_pieces(rt: HostRuntime) -> Result<(), Fail> {
     let bytes = [0x01, 0x80, 0xf0, 0x0f, 0x4b];
     let all = 1000;
-    assert_eq!(rt; *copied(rt.alloc(), &bytes, 1, all, true)?.bytes(), *bytes.as_slice());
-    assert_eq!(rt; *copied(rt.alloc(), &bytes, 2, all, true)?.bytes(), *bytes.as_slice());
-    assert_eq!(rt; *copied(rt.alloc(), &bytes, 4096, all, false)?.bytes(), *bytes.as_slice());
-    assert_eq!(rt; *copied(rt.alloc(), &[0xff, 0xff], 2, 13, true)?.bytes(), *[0xff, 0x1f].as_slice());
-    assert_eq!(rt; *copied(rt.alloc(), &[0xff, 0xff], 1, 13, false)?.bytes(), *[0xff].as_slice());
+    assert_eq!(rt;
+        *copied(rt.alloc(), &bytes, 1, all, true)?.bytes(),
+        *bytes.as_slice()
+    );
+    assert_eq!(rt;
+        *copied(rt.alloc(), &bytes, 2, all, true)?.bytes(),
+        *bytes.as_slice()
+    );
+    assert_eq!(rt;
+        *copied(rt.alloc(), &bytes, 4096, all, false)?.bytes(),
+        *bytes.as_slice()
+    );
+    assert_eq!(rt;
+        *copied(rt.alloc(), &[0xff, 0xff], 2, 13, true)?.bytes(),
+        *[0xff, 0x1f].as_slice()
+    );
+    assert_eq!(rt;
+        *copied(rt.alloc(), &[0xff, 0xff], 1, 13, false)?.bytes(),
+        *[0xff].as_slice()
+    );
     assert!(rt; copied(rt.alloc(), &[], 1, all, true)?.bytes().is_empty());
     let long = vec![in rt.alloc(); 0xa5; 5000]?;
-    assert_eq!(rt; *copied(rt.alloc(), &long, 4096, 40_000, true)?.bytes(), *long.as_slice());
+    assert_eq!(rt;
+        *copied(rt.alloc(), &long, 4096, 40_000, true)?.bytes(),
+        *long.as_slice()
+    );
     Ok(())
 }
 
@@ -84,7 +102,10 @@ fn a_read_fails_in_mid_stream(rt: HostRuntime) -> Result<(), Fail> {
     let mut sink = MemSink::new(rt.alloc(), 16, Vec::new(rt.alloc()))?;
     let mut reader = BitReader::open(rt.alloc())?;
     let mut writer = BitWriter::open(rt.alloc())?;
-    assert_eq!(rt; copy(&mut reader, &mut source, &mut writer, &mut sink, 100), Err(Failed));
+    assert_eq!(rt;
+        copy(&mut reader, &mut source, &mut writer, &mut sink, 100),
+        Err(Failed)
+    );
     assert_eq!(rt; writer.flush_whole(&mut sink), Ok(()));
     assert_eq!(rt; *sink.bytes(), *[0x05, 0x02].as_slice());
     Ok(())
@@ -97,7 +118,10 @@ fn the_second_put_fails(rt: HostRuntime) -> Result<(), Fail> {
     let mut sink = MemSink::new(rt.alloc(), 8192, vec![in rt.alloc(); 2]?)?;
     let mut reader = BitReader::open(rt.alloc())?;
     let mut writer = BitWriter::open(rt.alloc())?;
-    assert_eq!(rt; copy(&mut reader, &mut source, &mut writer, &mut sink, 50_000), Ok(40_000));
+    assert_eq!(rt;
+        copy(&mut reader, &mut source, &mut writer, &mut sink, 50_000),
+        Ok(40_000)
+    );
     assert_eq!(rt; sink.bytes().len(), 4096);
     assert_eq!(rt; writer.finish(&mut sink), Err(Failed));
     assert_eq!(rt; sink.bytes().len(), 4096);

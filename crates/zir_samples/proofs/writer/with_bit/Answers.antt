@@ -1,4 +1,4 @@
-use Rattle.std.proofs.Common.{ℕ, suc, ◌≡◌, ◌≤◌, ◌<◌, ◌+◌, ◌*◌, ◌%◌, ◌^◌, Bool, true, false, refl, sym, ap, ◌∙◌, arith, pow-suc}
+use Rattle.std.proofs.Common.{ℕ, suc, ◌≡◌, ◌≤◌, ◌<◌, ◌+◌, ◌*◌, ◌%◌, ◌^◌, Bool, true, false, refl, sym, ◌∙◌, arith, pow-suc}
 use Rattle.std.proofs.lemmas.Nat.{one_shl}
 use Rattle.std.specs.Prelude.{if◌then◌else◌}
 use Rattle.zir_samples.proofs.Spelling.{low_bits-more}
@@ -25,4 +25,5 @@ returns c =
     let number = c.from.ensures ∙ bit-number c.args.bit in
     rw (number, place-whole c.args.count c.args.bit c.requires.few) (record {
       bits = sym (low_bits-more c.args.count c.args.byte c.args.bit c.requires.low);
-      low = place_below c.args.count c.args.byte c.args.bit c.requires.low })
+      low = place_below c.args.count c.args.byte c.args.bit c.requires.low;
+    })

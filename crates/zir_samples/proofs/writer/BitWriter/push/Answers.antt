@@ -1,11 +1,10 @@
-use Rattle.std.proofs.Common.{ℕ, ◌≡◌, ◌≤◌, ◌<◌, ◌+◌, ◌*◌, ◌∷◌, [], ◌++◌, false, length, refl, sym, ap, ◌∙◌, subst, inr, arith, add-one, length-append}
+use Rattle.std.proofs.Common.{◌≡◌, ◌<◌, ◌+◌, ◌∷◌, [], ◌++◌, false, length, refl, sym, ap, ◌∙◌, inr, arith, add-one, length-append}
 use Rattle.std.specs.Prelude.{All}
 use Rattle.std.proofs.lemmas.Slice.{pushed}
 use Rattle.std.proofs.lemmas.List.{append-nil}
 use Rattle.std.proofs.lemmas.List.Elements.{All-push}
 use Rattle.std.proofs.lemmas.Result.{on_ok_weaker, on_err_weaker}
-use Rattle.zir_meaning.specs.Samples.{bits_of, low_bits, spell_bits}
-use Rattle.zir_outside.specs.Sinks.{Grew, GrewPart}
+use Rattle.zir_meaning.specs.Samples.{bits_of}
 use Rattle.zir_samples.specs.Writing.{pending}
 use Rattle.zir_samples.proofs.Putting.{bit_more, byte_more, length-pending, puts_nothing, spell-whole}
 use Rattle.zir_samples.proofs.writer.BitWriter.push.Goals as goal
