@@ -1,4 +1,5 @@
 pub mod Values
 pub mod Plain
 pub mod Engine
-pub mod Statuses
+pub mod Claim
+pub mod Loading

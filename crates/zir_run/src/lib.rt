@@ -1,19 +1,26 @@
 //! The whole of a run: the words, the program's text, its tree, and its component over the input and the output.
 #![tactic(auto)]
 
+ghost use Rattle.std.specs.Prelude.{ℕ, List, ◌≡◌, ◌⊎◌, ◌↔◌, map, string_bytes};
+ghost use Rattle.zir_meaning.specs.Answer.{Answer};
+ghost use Rattle.zir_outside.specs.Causes.{Rose};
+ghost use Rattle.zir_outside.specs.Sinks.{GrewPart, Tells};
+ghost use Rattle.zir_run.specs.Claim.{AreBad, LacksText, Asks, IsRefused, Means, EndsAs, IsTold, IsBroken, IsUnrun};
+ghost use Rattle.zir_run.specs.Loading.{run_status};
+
 mod engine;
 mod eval;
+mod load;
 mod plain;
-mod status;
 
-use engine::run_component;
-use plain::is_plain;
-use status::Status;
+use engine::{Ended, RunError, run_component};
+use load::load;
 use std::alloc::Global;
-use zir_front::{FrontError, read_program};
-use zir_outside::{Gate, LoadError, Shelf, Sink, Source};
-use zir_tree::tree::Prog;
+use zir_outside::{Gate, Shelf, Sink, Source};
 use zir_words::read_words;
+
+/// The status of bad words.
+const BAD_WORDS: u8 = 1;
 
 /// Does all that the program does: reads the words `run --ticks N NAME`, loads the text NAME from the shelf, runs its
 /// program over the bits of `input` with N ticks, and writes the bits of its output to `out`. It answers the status.
@@ -25,39 +32,49 @@ pub fn ziria<H: Shelf, S: Source + Send, K: Sink + Send, N: Sink, G: Gate + Sync
     out: &mut K,
     notes: &mut N,
     gate: &G,
-) -> u8 {
+) -> u8
+    // 1 comes exactly where the words are of no form.
+    ensures bad_words { (result ≡ 1) ↔ AreBad (map string_bytes words.now) }
+    // 3 comes only where the shelf failed, or tells its texts and has none of the name, and there always.
+    ensures not_loaded { result ≡ 3 → Rose (H.faults shelf.old) (H.faults shelf.new) ⊎ LacksText (map string_bytes words.now) (H.texts shelf.old) }
+    ensures absent { LacksText (map string_bytes words.now) (H.texts shelf.old) → result ≡ 3 }
+    // 2 comes exactly where the text is refused, unless its load failed or memory ran out.
+    ensures refused { (n : ℕ) (text : List ℕ) → result ≡ 2 → Asks (map string_bytes words.now) (H.texts shelf.old) n text → IsRefused text }
+    ensures refuses { (n : ℕ) (text : List ℕ) → Asks (map string_bytes words.now) (H.texts shelf.old) n text → IsRefused text → (result ≡ 2) ⊎ (result ≡ 3) ⊎ (result ≡ 9) }
+    // 0 and 5 come only where the definition says so, and the output grew by exactly its bytes.
+    ensures ended { (a : Answer) → result ≡ 0 → Means (map string_bytes words.now) (H.texts shelf.old) (S.left input.old) a → EndsAs 0 a (K.stands_for out.old) (K.stands_for out.new) }
+    ensures spent { (a : Answer) → result ≡ 5 → Means (map string_bytes words.now) (H.texts shelf.old) (S.left input.old) a → EndsAs 5 a (K.stands_for out.old) (K.stands_for out.new) }
+    // 7 comes only where a read failed, 8 only where a put failed.
+    ensures read_fault { result ≡ 7 → Rose (S.faults input.old) (S.faults input.new) }
+    ensures write_fault { result ≡ 8 → Rose (K.faults out.old) (K.faults out.new) }
+    // At 7, 8 and 9 the output grew by a front part of the definition's bytes.
+    ensures prefix { (a : Answer) → IsBroken result → Means (map string_bytes words.now) (H.texts shelf.old) (S.left input.old) a → GrewPart a.out (K.stands_for out.old) (K.stands_for out.new) }
+    // Where nothing failed and memory was there, the status is the definition's.
+    ensures complete { (a : Answer) → Means (map string_bytes words.now) (H.texts shelf.old) (S.left input.old) a → IsTold result a }
+    // At 1, 2 and 3 nothing was read from the input or put on the output.
+    ensures untouched { IsUnrun result → (input.new ≡ input.old) × (out.new ≡ out.old) }
+    // No note is put, and the texts stay.
+    ensures notes { notes.new ≡ notes.old }
+    ensures texts { H.texts shelf.new ≡ H.texts shelf.old }
+{
     let Some(asked) = read_words(words) else {
-        return Status::BadWords.code();
+        return BAD_WORDS;
     };
-    let status = match load(alloc, asked.name, shelf) {
-        Ok(program) => Status::of_run(run_component(alloc, &program.main, asked.ticks, input, out)),
-        Err(status) => status,
-    };
-    status.code()
-}
-
-/// The program in the text of this name.
-fn load<H: Shelf>(alloc: Global, name: &str, shelf: &mut H) -> Result<Prog, Status> {
-    let mut text = Vec::new(alloc);
-    match shelf.load(name, &mut text) {
-        Ok(()) => accept(alloc, &text),
-        Err(LoadError::Failed) => Err(Status::NotLoaded),
-        Err(LoadError::TooLong) => Err(Status::Refused),
-        Err(LoadError::Memory) => Err(Status::NoMemory),
+    match load(alloc, asked.name, shelf) {
+        Ok(program) => status_of_run(run_component(alloc, &program.main, asked.ticks, input, out)),
+        Err(refusal) => refusal.status(),
     }
 }
 
-/// The program in a text, of a form that runs.
-fn accept(alloc: Global, text: &[u8]) -> Result<Prog, Status> {
-    match read_program(alloc, text) {
-        Ok(program) => {
-            if is_plain(&program.main) {
-                Ok(program)
-            } else {
-                Err(Status::Refused)
-            }
-        }
-        Err(FrontError::Refused) => Err(Status::Refused),
-        Err(FrontError::Memory) => Err(Status::NoMemory),
+/// The status that tells how a run ended.
+fn status_of_run(ran: Result<Ended, RunError>) -> u8
+    ensures { result ≡ run_status ran }
+{
+    match ran {
+        Ok(Ended::Value | Ended::Starved) => 0,
+        Ok(Ended::Spent) => 5,
+        Err(RunError::Read) => 7,
+        Err(RunError::Write) => 8,
+        Err(RunError::Memory) => 9,
     }
 }
