@@ -5,3 +5,4 @@ pub mod Traces
 pub mod Moves
 pub mod Closing
 pub mod Starting
+pub mod Claims

@@ -17,7 +17,7 @@ use engine::{Ended, RunError, run_component};
 use load::load;
 use std::alloc::Global;
 use zir_outside::{Gate, Shelf, Sink, Source};
-use zir_words::read_words;
+use zir_words::{ask_once, read_words};
 
 /// The status of bad words.
 const BAD_WORDS: u8 = 1;
@@ -60,6 +60,7 @@ pub fn ziria<H: Shelf, S: Source + Send, K: Sink + Send, N: Sink, G: Gate + Sync
     let Some(asked) = read_words(words) else {
         return BAD_WORDS;
     };
+    ask_once();
     match load(alloc, asked.name, shelf) {
         Ok(program) => status_of_run(run_component(alloc, &program.main, asked.ticks, input, out)),
         Err(refusal) => refusal.status(),
