@@ -34,10 +34,10 @@ pub ran_ok : {K : Type 0} (stands_for : K → List ℕ → Type 0) (before mid n
     IfOk r (λ told. (told ≡ answer) × Grew (stands_for mid) (stands_for now) (spell_bits true kept)) →
     IfOk r (λ told. Ran told t (stands_for before) (stands_for now))
 ran_ok stands before mid now kept t answer (Ok told) tells g h = record {
-    end = subst (λ a. TellsEnd a t.end) (sym h.0) tells;
-    out = subst (Grew (stands before) (stands now)) (sym (spelled-all stands before mid [] kept t.outs true g))
-        (grew_both (stands before) (stands mid) (stands now) g.put (spell_bits true kept) g.grew h.1);
-  }
+  end = subst (λ a. TellsEnd a t.end) (sym h.0) tells;
+  out = subst (Grew (stands before) (stands now)) (sym (spelled-all stands before mid [] kept t.outs true g))
+      (grew_both (stands before) (stands mid) (stands now) g.put (spell_bits true kept) g.grew h.1);
+}
 ran_ok stands before mid now kept t answer (Err e) tells g h = tt
 
 -- and where a put at its end failed

@@ -28,10 +28,10 @@ ones-append (o ∷ os) ps = ap (λ bs. is_one o.value ∷ bs) (ones-append os ps
 -- nothing was given
 pub gave_none : {K : Type 0} (stands_for : K → List ℕ → Type 0) (sink : K) (old new : List Bool) → new ≡ old → Gave stands_for sink sink old new []
 gave_none stands sink old new e = record {
-    put = [];
-    whole = λ k d lt. absurd (omega arith);
-    bits = append-nil old ∙ sym e;
-    grew = λ h x. subst (stands sink) (sym (append-nil h)) x;
+  put = [];
+  whole = λ k d lt. absurd (omega arith);
+  bits = append-nil old ∙ sym e;
+  grew = λ h x. subst (stands sink) (sym (append-nil h)) x;
 }
 
 -- one output was given
@@ -43,12 +43,12 @@ gave_one stands before now old new o h = record { put = h.front; whole = h.whole
 pub gave_both : {K : Type 0} (stands_for : K → List ℕ → Type 0) (before mid now : K) (old kept new : List Bool) (os ps : List Out) →
     Gave stands_for before mid old kept os → Gave stands_for mid now kept new ps → Gave stands_for before now old new (os ++ ps)
 gave_both stands before mid now old kept new os ps g h = record {
-    put = g.put ++ h.put;
-    whole = All-append (λ b. b < 256) g.put h.put g.whole h.whole;
-    bits = ap (λ bs. old ++ bs) (ones-append os ps) ∙ sym (append_assoc old (ones os) (ones ps)) ∙ ap (λ bs. bs ++ ones ps) g.bits
-        ∙ append_assoc (bits_of g.put) kept (ones ps) ∙ ap (λ bs. bits_of g.put ++ bs) h.bits
-        ∙ sym (append_assoc (bits_of g.put) (bits_of h.put) new) ∙ ap (λ bs. bs ++ new) (sym (bits-append g.put h.put));
-    grew = grew_both (stands before) (stands mid) (stands now) g.put h.put g.grew h.grew;
+  put = g.put ++ h.put;
+  whole = All-append (λ b. b < 256) g.put h.put g.whole h.whole;
+  bits = ap (λ bs. old ++ bs) (ones-append os ps) ∙ sym (append_assoc old (ones os) (ones ps)) ∙ ap (λ bs. bs ++ ones ps) g.bits
+      ∙ append_assoc (bits_of g.put) kept (ones ps) ∙ ap (λ bs. bits_of g.put ++ bs) h.bits
+      ∙ sym (append_assoc (bits_of g.put) (bits_of h.put) new) ∙ ap (λ bs. bs ++ new) (sym (bits-append g.put h.put));
+  grew = grew_both (stands before) (stands mid) (stands now) g.put h.put g.grew h.grew;
 }
 
 -- what outputs and further bits spell is what went to the sink, and then what is kept and the further bits spell

@@ -113,14 +113,14 @@ halted_after stands before mid now old kept new os t stop.Read g h =
 halted_after stands before mid now old kept new os t stop.Memory g h =
     record { outs = os ++ h.outs; more = h.more; split = ap (λ ps. os ++ ps) h.split ∙ sym (append_assoc os h.outs h.more); gave = gave_both stands before mid now old kept new os h.outs g h.gave; end = tt }
 halted_after stands before mid now old kept new os t stop.Write g h = record {
-    outs = os ++ h.outs;
-    more = h.more;
-    split = ap (λ ps. os ++ ps) h.split ∙ sym (append_assoc os h.outs h.more);
-    gave = part_after g.put (spell_bits false (kept ++ ones h.outs)) (spell_bits false (old ++ ones (os ++ h.outs))) (stands before) (stands mid) (stands now)
-        (ap (λ bs. spell_bits false (old ++ bs)) (ones-append os h.outs) ∙ ap (spell_bits false) (sym (append_assoc old (ones os) (ones h.outs)))
-        ∙ spelled stands before mid old kept os false (ones h.outs) g) g.grew h.gave;
-    end = tt;
-  }
+  outs = os ++ h.outs;
+  more = h.more;
+  split = ap (λ ps. os ++ ps) h.split ∙ sym (append_assoc os h.outs h.more);
+  gave = part_after g.put (spell_bits false (kept ++ ones h.outs)) (spell_bits false (old ++ ones (os ++ h.outs))) (stands before) (stands mid) (stands now)
+      (ap (λ bs. spell_bits false (old ++ bs)) (ones-append os h.outs) ∙ ap (spell_bits false) (sym (append_assoc old (ones os) (ones h.outs)))
+      ∙ spelled stands before mid old kept os false (ones h.outs) g) g.grew h.gave;
+  end = tt;
+}
 
 -- so far a run has given some outputs of a trace, and the members left give the others
 pub record Still {K : Type 0} (stands_for : K → List ℕ → Type 0) (before now : K) (old : List Bool) (run : Running) (left : Option (List ℕ)) (ms : List Member) (n : ℕ) (t : Trace) : Type 0 where
@@ -137,15 +137,15 @@ pub record Still {K : Type 0} (stands_for : K → List ℕ → Type 0) (before n
 pub still_start : {K : Type 0} (stands_for : K → List ℕ → Type 0) (sink : K) (run : Running) (left : Option (List ℕ)) (ms : List Member) (n : ℕ) (v : Val) (s : State) (bytes : List ℕ) →
     left ≡ Some bytes → StandsAt run s → Still stands_for sink sink run.writer run left ms n (list_tr ms n v s (ahead run.reader bytes))
 still_start stands sink run left ms n v s bytes told st = record {
-    rest = bytes;
-    told = told;
-    value = v;
-    here = s;
-    stands = st;
-    outs = [];
-    trace = refl;
-    gave = gave_none stands sink run.writer run.writer refl;
-  }
+  rest = bytes;
+  told = told;
+  value = v;
+  here = s;
+  stands = st;
+  outs = [];
+  trace = refl;
+  gave = gave_none stands sink run.writer run.writer refl;
+}
 
 -- one member more
 pub still_next : {K : Type 0} (stands_for : K → List ℕ → Type 0) (before mid now : K) (old : List Bool) (run run' new : Running) (left left' : Option (List ℕ)) (m : Member) (ms : List Member) (n : ℕ) (t : Trace) (v : Val) →

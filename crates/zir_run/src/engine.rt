@@ -109,7 +109,12 @@ impl Running {
     }
 
     /// Runs the members of a block one after the other.
-    fn members<S: Source, K: Sink>(&mut self, members: &[Member], input: &mut S, out: &mut K) -> Result<(), Stop>
+    fn members<S: Source, K: Sink>(
+        &mut self,
+        members: &[Member],
+        input: &mut S,
+        out: &mut K,
+    ) -> Result<(), Stop>
         requires steps { All (λ m. is_step m.what ≡ true) members.now }
         requires reads { self.old.reader.failed ≡ false }
         ensures closes { (bytes : List ℕ) (s : State) (n : ℕ) (v : Val) → S.left input.old ≡ Some bytes → StandsAt self.old s → Closes K.stands_for out.old out.new self.old.writer self.new.writer (list_tr members.now n v s (ahead self.old.reader bytes)) result }
@@ -126,7 +131,12 @@ impl Running {
     }
 
     /// Runs a member of a block, and gives its control value.
-    fn member<S: Source, K: Sink>(&mut self, what: &Comp, input: &mut S, out: &mut K) -> Result<Val, Stop>
+    fn member<S: Source, K: Sink>(
+        &mut self,
+        what: &Comp,
+        input: &mut S,
+        out: &mut K,
+    ) -> Result<Val, Stop>
         requires step { is_step what.now ≡ true }
         requires reads { self.old.reader.failed ≡ false }
         ensures goes { (bytes : List ℕ) (s : State) → S.left input.old ≡ Some bytes → StandsAt self.old s → Goes K.stands_for out.old out.new self.old self.new (S.left input.new) (tr what.now s (ahead self.old.reader bytes)) result }

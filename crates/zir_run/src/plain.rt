@@ -12,7 +12,8 @@ pub fn is_plain(main: &Comp) -> bool
 {
     match main {
         Comp::Block(members, _) => are_steps(members.as_slice()),
-        Comp::Take(_) | Comp::Emit(..) | Comp::Return(..) | Comp::Repeat(..) | Comp::Pipe(..) => false,
+        Comp::Take(_) | Comp::Emit(..) | Comp::Return(..) | Comp::Repeat(..) | Comp::Pipe(..) =>
+            false,
     }
 }
 

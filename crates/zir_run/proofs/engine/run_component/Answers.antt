@@ -27,11 +27,11 @@ returns-clause-done g c bytes told =
     let run = c.in_ok-run.run' in let fresh : IsFresh run c.args.ticks = c.in_ok-run.ensures in
     let t = list_tr c.as_slice.result.now 0 UnitVal (start c.args.ticks) (ahead run.reader bytes) in
     let whole : t ≡ trace_of c.args.main.now c.args.ticks bytes =
-        ap (λ ms. list_tr ms 0 UnitVal (start c.args.ticks) (ahead run.reader bytes)) c.as_slice.ensures
-        ∙ trace_members c.args.main.now c.in-Block.members c.in-Block.field-1 c.args.ticks bytes run.reader c.in-Block.is fresh.reader in
+    ap (λ ms. list_tr ms 0 UnitVal (start c.args.ticks) (ahead run.reader bytes)) c.as_slice.ensures
+    ∙ trace_members c.args.main.now c.in-Block.members c.in-Block.field-1 c.args.ticks bytes run.reader c.in-Block.is fresh.reader in
     let closes : Closes g.K.Sink.stands_for c.args.out.now c.members-stop.new.out [] c.members-stop.new.self.writer t c.members-stop.result =
-        subst (λ w. Closes g.K.Sink.stands_for c.args.out.now c.members-stop.new.out w c.members-stop.new.self.writer t c.members-stop.result) fresh.writer
-        (c.members-stop.ensures.closes bytes (start c.args.ticks) 0 UnitVal told (fresh_stands run c.args.ticks fresh)) in
+    subst (λ w. Closes g.K.Sink.stands_for c.args.out.now c.members-stop.new.out w c.members-stop.new.self.writer t c.members-stop.result) fresh.writer
+    (c.members-stop.ensures.closes bytes (start c.args.ticks) 0 UnitVal told (fresh_stands run c.args.ticks fresh)) in
     c.close.ensures.done c.args.out.now (trace_of c.args.main.now c.args.ticks bytes)
     (subst (λ t. Closes g.K.Sink.stands_for c.args.out.now c.members-stop.new.out [] c.members-stop.new.self.writer t c.members-stop.result) whole closes)
 
@@ -40,10 +40,10 @@ returns-clause-failed g c bytes told =
     let run = c.in_ok-run.run' in let fresh : IsFresh run c.args.ticks = c.in_ok-run.ensures in
     let t = list_tr c.as_slice.result.now 0 UnitVal (start c.args.ticks) (ahead run.reader bytes) in
     let whole : t ≡ trace_of c.args.main.now c.args.ticks bytes =
-        ap (λ ms. list_tr ms 0 UnitVal (start c.args.ticks) (ahead run.reader bytes)) c.as_slice.ensures
-        ∙ trace_members c.args.main.now c.in-Block.members c.in-Block.field-1 c.args.ticks bytes run.reader c.in-Block.is fresh.reader in
+    ap (λ ms. list_tr ms 0 UnitVal (start c.args.ticks) (ahead run.reader bytes)) c.as_slice.ensures
+    ∙ trace_members c.args.main.now c.in-Block.members c.in-Block.field-1 c.args.ticks bytes run.reader c.in-Block.is fresh.reader in
     let closes : Closes g.K.Sink.stands_for c.args.out.now c.members-stop.new.out [] c.members-stop.new.self.writer t c.members-stop.result =
-        subst (λ w. Closes g.K.Sink.stands_for c.args.out.now c.members-stop.new.out w c.members-stop.new.self.writer t c.members-stop.result) fresh.writer
-        (c.members-stop.ensures.closes bytes (start c.args.ticks) 0 UnitVal told (fresh_stands run c.args.ticks fresh)) in
+    subst (λ w. Closes g.K.Sink.stands_for c.args.out.now c.members-stop.new.out w c.members-stop.new.self.writer t c.members-stop.result) fresh.writer
+    (c.members-stop.ensures.closes bytes (start c.args.ticks) 0 UnitVal told (fresh_stands run c.args.ticks fresh)) in
     c.close.ensures.failed c.args.out.now (trace_of c.args.main.now c.args.ticks bytes)
     (subst (λ t. Closes g.K.Sink.stands_for c.args.out.now c.members-stop.new.out [] c.members-stop.new.self.writer t c.members-stop.result) whole closes)
