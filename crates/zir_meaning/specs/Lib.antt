@@ -7,3 +7,4 @@ pub mod Received
 pub mod Samples
 pub mod Run
 pub mod Rows
+pub mod Answer

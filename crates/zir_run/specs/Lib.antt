@@ -1,0 +1,5 @@
+pub mod Values
+pub mod Plain
+pub mod Engine
+pub mod Claim
+pub mod Loading
