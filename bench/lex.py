@@ -1,0 +1,50 @@
+"""How long the lexer takes on the longest text, as a ratio to a plain lexer in C.
+
+Both programs run on a text of 65,536 bytes and on an empty one, in turn; the difference of the two medians is the time of
+the text itself, without that of starting a process. The text is refused at its second program, so that nothing but its
+tokens is worked on. Usage, after `make build`: python3 bench/lex.py
+"""
+
+import os
+import statistics
+import subprocess
+import tempfile
+import time
+
+HERE = os.path.dirname(os.path.abspath(__file__))
+ZIRIA = os.path.join(HERE, "..", "crates", "ziria", "out", "ziria")
+LINE = b"let comp main = read[bit] >>> { x <- take; y <- take; emit x ^ y; return () } >>> write[bit]\n"
+LONGEST = 65536
+RUNS = 101
+
+
+def seconds(words):
+    began = time.perf_counter()
+    subprocess.run(words, stdin=subprocess.DEVNULL, stdout=subprocess.DEVNULL, stderr=subprocess.DEVNULL)
+    return time.perf_counter() - began
+
+
+def cost(words, texts):
+    """The median seconds that the long text costs above the empty one."""
+    times = {text: [] for text in texts}
+    for _ in range(RUNS):
+        for text in texts:
+            times[text].append(seconds(words + [text]))
+    empty, long = (statistics.median(times[text]) for text in texts)
+    return long - empty
+
+
+def main():
+    with tempfile.TemporaryDirectory() as scratch:
+        plain = os.path.join(scratch, "lex")
+        subprocess.run(["cc", "-O2", "-o", plain, os.path.join(HERE, "lex.c")], check=True)
+        texts = [os.path.join(scratch, name) for name in ("empty.zir", "long.zir")]
+        for text, content in zip(texts, (b"", (LINE * (LONGEST // len(LINE) + 1))[:LONGEST])):
+            with open(text, "wb") as file:
+                file.write(content)
+        ours = cost([ZIRIA, "run", "--ticks", "1"], texts)
+        theirs = cost([plain], texts)
+    print(f"65,536 bytes: ziria {1000 * ours:.2f} ms, plain C {1000 * theirs:.2f} ms, ratio {ours / theirs:.1f}")
+
+
+main()
