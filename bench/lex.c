@@ -11,16 +11,31 @@ struct token {
     int kind;
 };
 
-static const char *keywords[] = { "arr", "bit", "bool", "comp", "do", "else", "emit", "emits", "external", "false", "for",
-    "fun", "if", "in", "int", "int16", "int32", "int8", "let", "map", "not", "read", "repeat", "return", "seq", "struct",
-    "take", "takes", "then", "times", "true", "try", "until", "var", "viterbi", "while", "with", "write" };
+struct word {
+    const char *text;
+    size_t length;
+};
 
-static const char *signs[] = { "|>>>|", ">>>", "<<", ">>", "<-", ":=", "==", "!=", "<=", ">=", "&&", "||", ".." };
+#define WORD(text) { text, sizeof text - 1 }
+
+static const struct word keywords[] = {
+    WORD("arr"), WORD("bit"), WORD("bool"), WORD("comp"), WORD("do"), WORD("else"), WORD("emit"),
+    WORD("emits"), WORD("external"), WORD("false"), WORD("for"), WORD("fun"), WORD("if"), WORD("in"),
+    WORD("int"), WORD("int16"), WORD("int32"), WORD("int8"), WORD("let"), WORD("map"), WORD("not"),
+    WORD("read"), WORD("repeat"), WORD("return"), WORD("seq"), WORD("struct"), WORD("take"), WORD("takes"),
+    WORD("then"), WORD("times"), WORD("true"), WORD("try"), WORD("until"), WORD("var"), WORD("viterbi"),
+    WORD("while"), WORD("with"), WORD("write"),
+};
+
+static const struct word signs[] = {
+    WORD("|>>>|"), WORD(">>>"), WORD("<<"), WORD(">>"), WORD("<-"), WORD(":="), WORD("=="), WORD("!="),
+    WORD("<="), WORD(">="), WORD("&&"), WORD("||"), WORD(".."),
+};
 
 static int keyword(const char *text, size_t length)
 {
     for (size_t i = 0; i < sizeof keywords / sizeof *keywords; i++)
-        if (strlen(keywords[i]) == length && memcmp(keywords[i], text, length) == 0)
+        if (keywords[i].length == length && memcmp(keywords[i].text, text, length) == 0)
             return (int)i + 1;
     return 0;
 }
@@ -28,8 +43,8 @@ static int keyword(const char *text, size_t length)
 static size_t sign(const char *text, size_t left)
 {
     for (size_t i = 0; i < sizeof signs / sizeof *signs; i++) {
-        size_t length = strlen(signs[i]);
-        if (length <= left && memcmp(signs[i], text, length) == 0)
+        size_t length = signs[i].length;
+        if (length <= left && memcmp(signs[i].text, text, length) == 0)
             return length;
     }
     return 1;

@@ -1,12 +1,11 @@
 """How long the lexer takes on the longest text, as a ratio to a plain lexer in C.
 
-Both programs run on a text of 65,536 bytes and on an empty one, in turn; the difference of the two medians is the time of
-the text itself, without that of starting a process. The text is refused at its second program, so that nothing but its
+Both programs run on a text of 65,536 bytes and on an empty one, in turn; the difference of the two shortest times is the time
+of the text itself, without that of starting a process and whatever else the machine did. The text is refused at its second program, so that nothing but its
 tokens is worked on. Usage, after `make build`: python3 bench/lex.py
 """
 
 import os
-import statistics
 import subprocess
 import tempfile
 import time
@@ -15,7 +14,7 @@ HERE = os.path.dirname(os.path.abspath(__file__))
 ZIRIA = os.path.join(HERE, "..", "crates", "ziria", "out", "ziria")
 LINE = b"let comp main = read[bit] >>> { x <- take; y <- take; emit x ^ y; return () } >>> write[bit]\n"
 LONGEST = 65536
-RUNS = 101
+RUNS = 200
 
 
 def seconds(words):
@@ -25,12 +24,12 @@ def seconds(words):
 
 
 def cost(words, texts):
-    """The median seconds that the long text costs above the empty one."""
+    """The seconds that the long text costs above the empty one, by the shortest time of each."""
     times = {text: [] for text in texts}
     for _ in range(RUNS):
         for text in texts:
             times[text].append(seconds(words + [text]))
-    empty, long = (statistics.median(times[text]) for text in texts)
+    empty, long = (min(times[text]) for text in texts)
     return long - empty
 
 
