@@ -1,15 +1,13 @@
 -- From what the parts answer to what the top call claims.
-use Rattle.std.specs.Prelude.{ℕ, ◌<◌, ◌≡◌, refl, ◌⊎◌, List, [], Option, Some, Result, Ok, Err, IfOk, OnErr, true}
+use Rattle.std.specs.Prelude.{ℕ, ◌<◌, ◌≡◌, refl, List, [], Option, Some, Result, Ok, Err, IfOk, OnErr}
 use Rattle.std.proofs.Common.{ap, ◌∙◌, sym, subst, arith, inl, inr}
 use Rattle.zir_tree.specs.declared.tree.Prog.{Prog}
 use Rattle.zir_tree.specs.declared.ends.End.{End}
-use Rattle.zir_meaning.specs.Trace.{Trace}
-use Rattle.zir_meaning.specs.Composition.{values}
-use Rattle.zir_meaning.specs.Samples.{spell, Ended}
+use Rattle.zir_meaning.specs.Samples.{Ended}
 use Rattle.zir_meaning.specs.Run.{run_end}
 use Rattle.zir_meaning.specs.Answer.{Answer, status_of, answer_of}
 use Rattle.zir_outside.specs.Loads.{Texts}
-use Rattle.zir_outside.specs.Sinks.{Grew, GrewPart}
+use Rattle.zir_outside.specs.Sinks.{GrewPart}
 use Rattle.zir_words.specs.Words.{IsRun, AskOnce}
 use Rattle.zir_run.specs.declared.engine.Ended.{Ended as Ending}
 use Rattle.zir_run.specs.declared.engine.Ended.TheVariants as ended

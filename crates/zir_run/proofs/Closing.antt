@@ -1,15 +1,13 @@
 -- What is written where a run ends or breaks off.
-use Rattle.std.specs.Prelude.{ℕ, ◌≡◌, refl, Bool, true, false, List, [], ◌++◌, Result, Ok, Err, IfOk, OnErr}
+use Rattle.std.specs.Prelude.{ℕ, ◌≡◌, Bool, true, false, List, [], ◌++◌, Result, Ok, Err, IfOk, OnErr}
 use Rattle.std.proofs.Common.{ap, ◌∙◌, sym, subst}
 use Rattle.std.proofs.lemmas.List.{append-nil}
-use Rattle.zir_tree.specs.declared.ends.End.TheVariants.{Starved, Spent}
 use Rattle.zir_meaning.specs.Trace.{Out, Trace}
 use Rattle.zir_meaning.specs.Composition.{values}
 use Rattle.zir_meaning.specs.Samples.{spell, spell_bits}
 use Rattle.zir_outside.specs.Sinks.{Grew, GrewPart}
 use Rattle.zir_run.specs.declared.engine.Ended.{Ended}
 use Rattle.zir_run.specs.declared.engine.RunError.{RunError}
-use Rattle.zir_run.specs.declared.engine.Stop.{Stop}
 use Rattle.zir_run.specs.declared.engine.Stop.TheVariants as stop
 use Rattle.zir_run.specs.Engine.{ones, TellsEnd, Ran, RanPart, Gave, Halted}
 use Rattle.zir_run.proofs.Giving.{grew_both, ones-append, spelled-all, part_after, part_of_front}

@@ -1,11 +1,10 @@
 -- What goes to a writer, and by it to a sink.
-use Rattle.std.specs.Prelude.{ℕ, ◌<◌, ◌≡◌, refl, Bool, true, false, List, [], ◌∷◌, ◌++◌, All, map}
+use Rattle.std.specs.Prelude.{ℕ, ◌<◌, ◌≡◌, refl, Bool, false, List, [], ◌∷◌, ◌++◌}
 use Rattle.std.proofs.Common.{ap, ◌∙◌, sym, subst, arith, append_assoc}
-use Rattle.std.proofs.lemmas.List.{append-nil, map-append}
+use Rattle.std.proofs.lemmas.List.{append-nil}
 use Rattle.std.proofs.lemmas.List.Elements.{All-append}
 use Rattle.zir_meaning.specs.Trace.{Out}
 use Rattle.zir_meaning.specs.Evaluation.{is_one}
-use Rattle.zir_meaning.specs.Composition.{values}
 use Rattle.zir_meaning.specs.Samples.{bits_of, spell_bits}
 use Rattle.zir_outside.specs.Sinks.{Grew, GrewPart}
 use Rattle.zir_samples.specs.Writing.{Puts}

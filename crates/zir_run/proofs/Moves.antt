@@ -1,28 +1,28 @@
 -- What one component of a run came to, and what a block of them came to.
-use Rattle.std.specs.Prelude.{ℕ, suc, ◌+◌, ◌<◌, ◌≡◌, refl, Bool, true, false, List, [], ◌∷◌, ◌++◌, Option, Some, None, Result, Ok, Err, length}
+use Rattle.std.specs.Prelude.{ℕ, suc, ◌+◌, ◌<◌, ◌≡◌, refl, Bool, false, List, [], ◌∷◌, ◌++◌, Option, Some, Result, Ok, Err, length}
 use Rattle.std.proofs.Common.{ap, ◌∙◌, sym, subst, append_assoc, get_or, drop, add-one}
 use Rattle.std.proofs.Math.Seq.{drop-cons}
 use Rattle.std.proofs.lemmas.List.{append-nil}
 use Rattle.zir_tree.specs.declared.value.Val.{Val}
 use Rattle.zir_tree.specs.declared.value.Val.TheVariants.{Unit as UnitVal}
 use Rattle.zir_tree.specs.declared.place.Place.{Place}
-use Rattle.zir_tree.specs.declared.ends.End.TheVariants.{Value, Starved, Spent}
+use Rattle.zir_tree.specs.declared.ends.End.TheVariants.{Value}
 use Rattle.zir_tree.specs.declared.tree.Expr.{Expr}
 use Rattle.zir_tree.specs.declared.tree.Ident.{Ident}
-use Rattle.zir_tree.specs.declared.tree.Comp.{Comp, Emit}
+use Rattle.zir_tree.specs.declared.tree.Comp.{Emit}
 use Rattle.zir_tree.specs.declared.tree.Member.{Member}
 use Rattle.zir_meaning.specs.Store.{bound}
-use Rattle.zir_meaning.specs.Trace.{State, point, Out, Trace, Next, ends, after, spent, then_do}
-use Rattle.zir_meaning.specs.Evaluation.{is_one, ev, Got}
+use Rattle.zir_meaning.specs.Trace.{State, point, Out, Trace, Next, ends, after, then_do}
+use Rattle.zir_meaning.specs.Evaluation.{is_one}
 use Rattle.zir_meaning.specs.Component.{tr, bind, leave}
-use Rattle.zir_outside.specs.Sinks.{Grew, GrewPart}
+use Rattle.zir_outside.specs.Sinks.{GrewPart}
 use Rattle.zir_meaning.specs.Samples.{spell_bits}
 use Rattle.zir_samples.specs.Writing.{Puts}
 use Rattle.zir_run.specs.declared.engine.Stop.{Stop}
 use Rattle.zir_run.specs.declared.engine.Stop.TheVariants as stop
 use Rattle.zir_run.specs.declared.engine.Running.{Running}
 use Rattle.zir_run.specs.Values.{IsValue}
-use Rattle.zir_run.specs.Engine.{ahead, ones, list_tr, StandsAt, Gave, Came, Quiet, QuietStop, Passed, GaveUp, StopsSo, Halted, Goes, Finished, Closes}
+use Rattle.zir_run.specs.Engine.{ahead, ones, list_tr, StandsAt, Gave, Quiet, QuietStop, Passed, Halted, Goes, Finished}
 use Rattle.zir_run.proofs.Giving.{ones-append, gave_none, gave_one, gave_both, spelled, part_after}
 use Rattle.zir_run.proofs.Traces.{emit-given, emit-spent, then-value, then-outs, then-starved, then-spent, after-after}
 

@@ -4,7 +4,7 @@ use Rattle.std.specs.List.{list_all}
 use Rattle.std.proofs.Common.{ap}
 use denote.Hole.Carrier.{hidden}
 use Rattle.zir_tree.specs.declared.place.Place.{Place}
-use Rattle.zir_tree.specs.declared.tree.Comp.{Comp, Block}
+use Rattle.zir_tree.specs.declared.tree.Comp.{Block}
 use Rattle.zir_tree.specs.declared.tree.Comp.TheBlock.{shape-the_row-Member-0, hidden-the_row-Member-0}
 use Rattle.zir_tree.specs.declared.tree.Member.{Member}
 use Rattle.zir_run.specs.Plain.{is_step, row_plain, is_plain}

@@ -1,13 +1,11 @@
 -- Where the run of a block begins.
-use Rattle.std.specs.Prelude.{ℕ, ◌≡◌, refl, ◌<◌, Bool, true, List, [], map, length, All}
+use Rattle.std.specs.Prelude.{ℕ, ◌≡◌, true, List}
 use Rattle.std.specs.List.{list_all}
 use Rattle.std.proofs.Common.{ap, ◌∙◌, sym}
-use Rattle.std.proofs.lemmas.List.Sums.{AllPass-from_list_all}
-use Rattle.zir_tree.specs.declared.value.Val.TheVariants.{Unit as UnitVal, Bit as BitVal}
+use Rattle.zir_tree.specs.declared.value.Val.TheVariants.{Unit as UnitVal}
 use Rattle.zir_tree.specs.declared.place.Place.{Place}
 use Rattle.zir_tree.specs.declared.tree.Comp.{Comp, Block}
 use Rattle.zir_tree.specs.declared.tree.Member.{Member}
-use Rattle.zir_meaning.specs.Trace.{Trace}
 use Rattle.zir_meaning.specs.Component.{tr}
 use Rattle.zir_meaning.specs.Run.{start}
 use Rattle.zir_meaning.specs.Samples.{bits_of, numbered, element_values}

@@ -1,5 +1,5 @@
 -- Traces of blocks, member by member.
-use Rattle.std.specs.Prelude.{ℕ, zero, suc, ◌+◌, ◌≡◌, refl, List, [], ◌∷◌, ◌++◌, length, map, Bool, true, false}
+use Rattle.std.specs.Prelude.{ℕ, ◌+◌, ◌≡◌, refl, List, [], ◌∷◌, ◌++◌, length, map, Bool}
 use Rattle.std.proofs.Common.{ap, ◌∙◌, sym, append_assoc, add-one}
 use Rattle.std.proofs.lemmas.List.{append-nil}
 use denote.Hole.Carrier.{hidden}
@@ -9,13 +9,13 @@ use Rattle.zir_tree.specs.declared.place.Place.{Place}
 use Rattle.zir_tree.specs.declared.ends.End.{End}
 use Rattle.zir_tree.specs.declared.ends.End.TheVariants.{Value, Starved, Trap as Trapped, Spent}
 use Rattle.zir_tree.specs.declared.tree.Expr.{Expr}
-use Rattle.zir_tree.specs.declared.tree.Comp.{Comp, Emit, Return, Block}
+use Rattle.zir_tree.specs.declared.tree.Comp.{Emit, Block}
 use Rattle.zir_tree.specs.declared.tree.Comp.TheBlock.{shape-the_row-Member-0, hidden-the_row-Member-0}
 use Rattle.zir_tree.specs.declared.tree.Member.{Member}
 use Rattle.zir_meaning.specs.Trace.{State, point, Out, Trace, Next, spent, ends, gives, after, then_end, then_do, tick_of}
 use Rattle.zir_meaning.specs.Evaluation.{Got, ev, with_value}
 use Rattle.zir_meaning.specs.Component.{tr, members, bind}
-use Rattle.zir_meaning.specs.Samples.{Element, numbered, element_values}
+use Rattle.zir_meaning.specs.Samples.{numbered, element_values}
 use Rattle.zir_run.specs.Engine.{list_tr}
 
 -- functions that agree everywhere are equal

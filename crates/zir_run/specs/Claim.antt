@@ -2,9 +2,8 @@
 use Rattle.std.specs.Prelude.{ℕ, ◌≡◌, ◌⊎◌, List, Option, Some, true}
 use Rattle.zir_tree.specs.declared.tree.Prog.{Prog}
 use Rattle.zir_meaning.specs.Answer.{Answer, answer_of}
-use Rattle.zir_outside.specs.Causes.{Rose}
 use Rattle.zir_outside.specs.Loads.{Texts, IsAbsent}
-use Rattle.zir_outside.specs.Sinks.{Grew, GrewPart}
+use Rattle.zir_outside.specs.Sinks.{Grew}
 use Rattle.zir_words.specs.Words.{IsRun}
 use Rattle.zir_front.specs.Program.{IsProgram}
 use Rattle.zir_run.specs.Plain.{is_plain}

@@ -1,13 +1,12 @@
 -- What a run of a component has come to, in the terms of its trace.
-use Rattle.std.specs.Prelude.{ℕ, ◌+◌, ◌<◌, ◌≡◌, ⊤, Bool, true, false, List, [], ◌∷◌, ◌++◌, map, All, Option, Some, None, Result, Ok, Err}
+use Rattle.std.specs.Prelude.{ℕ, ◌+◌, ◌<◌, ◌≡◌, ⊤, Bool, true, false, List, [], ◌∷◌, ◌++◌, map, All, Option, Some, Result, Ok, Err}
 use Rattle.zir_tree.specs.declared.value.Val.{Val}
 use Rattle.zir_tree.specs.declared.value.Val.TheVariants.{Bit as BitVal}
 use Rattle.zir_tree.specs.declared.ends.End.{End}
 use Rattle.zir_tree.specs.declared.ends.End.TheVariants.{Value, Starved, Spent}
 use Rattle.zir_tree.specs.declared.tree.Comp.{Comp}
 use Rattle.zir_tree.specs.declared.tree.Member.{Member}
-use Rattle.zir_meaning.specs.Store.{Store}
-use Rattle.zir_meaning.specs.Trace.{State, Out, Trace, ends, after, spent, then_do}
+use Rattle.zir_meaning.specs.Trace.{State, Out, Trace, ends, after, then_do}
 use Rattle.zir_meaning.specs.Evaluation.{is_one}
 use Rattle.zir_meaning.specs.Composition.{values}
 use Rattle.zir_meaning.specs.Component.{tr, bind, leave}

@@ -79,3 +79,6 @@ fn status_of_run(ran: Result<Ended, RunError>) -> u8
         Err(RunError::Memory) => 9,
     }
 }
+
+#[cfg(test)]
+mod tests;

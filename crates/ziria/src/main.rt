@@ -18,6 +18,8 @@ fn main(rt: HostRuntime) -> io::Result<ExitCode> {
     let mut input = StdInput::new(rt.stdin());
     let mut out = StdOutput::new(rt.stdout());
     let mut notes = StdNotes::new(rt.stderr());
-    let status = ziria(alloc, &words, &mut shelf, &mut input, &mut out, &mut notes, &Open);
+    let status = ziria(
+        alloc, &words, &mut shelf, &mut input, &mut out, &mut notes, &Open,
+    );
     Ok(ExitCode::from(status))
 }

@@ -1,4 +1,4 @@
-use Rattle.std.proofs.Common.{◌≡◌, List, ℕ, map, Ok, Err, ap, sym, ◌∙◌, refl, subst, arith}
+use Rattle.std.proofs.Common.{map, sym, ◌∙◌, subst, arith}
 use Rattle.std.specs.Prelude.{string_bytes}
 use Rattle.zir_run.specs.Claim.{IsTold, IsBroken}
 use Rattle.zir_run.proofs.Claims.{asks_has, means_loaded, ran_ends, ran_breaks, ran_told, refused_told, unloaded_told, untouched_part}

@@ -1,4 +1,4 @@
-use Rattle.std.proofs.Common.{◌≡◌, ap, sym, ◌∙◌}
+use Rattle.std.proofs.Common.{ap, sym, ◌∙◌}
 use Rattle.zir_run.specs.Plain.{is_plain}
 use Rattle.zir_run.proofs.PlainBlocks.{plain-block}
 use Rattle.zir_run.proofs.plain.is_plain.Goals as goal

@@ -1,8 +1,7 @@
-use Rattle.std.proofs.Common.{◌≡◌, [], Ok, Err, ap, sym, ◌∙◌, refl, subst}
+use Rattle.std.proofs.Common.{[], subst}
 use Rattle.zir_run.specs.declared.engine.Ended.TheVariants as ended
-use Rattle.zir_run.specs.declared.engine.Stop.TheVariants as stop
-use Rattle.zir_run.specs.Engine.{Closes, Finished, Halted}
-use Rattle.zir_run.proofs.Closing.{starved_given, spent_given, ran_ok, ran_failed, ran_broken, ran_unwritten}
+use Rattle.zir_run.specs.Engine.{Closes, Finished}
+use Rattle.zir_run.proofs.Closing.{ran_ok, ran_failed}
 use Rattle.zir_run.proofs.engine.Running.close.Goals as goal
 
 pub returns-in-Ok-clause-done : goal.returns-in-Ok-clause-done

@@ -1,4 +1,4 @@
-use Rattle.std.proofs.Common.{◌≡◌, ◌+◌, false, ◌++◌, ◌∷◌, [], ap, sym, ◌∙◌, refl, subst}
+use Rattle.std.proofs.Common.{◌≡◌, ◌+◌, false, ◌++◌, ◌∷◌, [], ap, sym, ◌∙◌, subst}
 use Rattle.zir_samples.specs.Writing.{Puts}
 use Rattle.zir_meaning.specs.Evaluation.{is_one}
 use Rattle.zir_meaning.specs.Samples.{spell_bits}

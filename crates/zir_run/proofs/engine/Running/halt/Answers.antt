@@ -1,7 +1,7 @@
-use Rattle.std.proofs.Common.{◌≡◌, [], Ok, Err, ap, sym, ◌∙◌, refl, subst}
+use Rattle.std.proofs.Common.{[], subst}
 use Rattle.zir_run.specs.declared.engine.Ended.TheVariants as ended
 use Rattle.zir_run.specs.declared.engine.Stop.TheVariants as stop
-use Rattle.zir_run.specs.Engine.{Closes, Finished, Halted}
+use Rattle.zir_run.specs.Engine.{Halted}
 use Rattle.zir_run.proofs.Closing.{starved_given, spent_given, ran_ok, ran_failed, ran_broken, ran_unwritten}
 use Rattle.zir_run.proofs.engine.Running.halt.Goals as goal
 

@@ -1,4 +1,4 @@
-use Rattle.std.proofs.Common.{◌≡◌, Some, ap, sym, ◌∙◌, refl, subst}
+use Rattle.std.proofs.Common.{Some, sym, subst}
 use Rattle.zir_meaning.specs.Component.{tr}
 use Rattle.zir_run.specs.Engine.{ahead, Goes, Quiet}
 use Rattle.zir_run.proofs.Moves.{quiet_goes}

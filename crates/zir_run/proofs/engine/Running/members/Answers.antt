@@ -1,6 +1,6 @@
-use Rattle.std.proofs.Common.{◌≡◌, ◌≤◌, ◌∷◌, ◌+◌, Some, Err, ap, sym, ◌∙◌, refl, subst, drop, arith}
+use Rattle.std.proofs.Common.{◌≡◌, ◌∷◌, ◌+◌, ap, ◌∙◌, subst, drop, arith}
 use Rattle.std.proofs.lemmas.Result.{err_from_is_err_and}
-use Rattle.zir_run.specs.Engine.{ahead, list_tr, Closes}
+use Rattle.zir_run.specs.Engine.{ahead, list_tr}
 use Rattle.zir_run.proofs.Moves.{Still, still_stop, still_next, still_broken, drop-item}
 use Rattle.zir_run.proofs.engine.Running.members.Goals as goal
 
