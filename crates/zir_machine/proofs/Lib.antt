@@ -1,0 +1,10 @@
+pub mod Expressions
+pub mod Levels
+pub mod Links
+pub mod Leaves
+pub mod Stepping
+pub mod Building
+pub mod Feeding
+pub mod Machines
+pub mod Answering
+pub mod Sides

@@ -1,0 +1,14 @@
+pub mod Values
+pub mod Standing
+pub mod Steps
+pub mod Late
+pub mod Lateness
+pub mod Understood
+pub mod Understanding
+pub mod Nodes
+pub mod Heights
+pub mod MachineKept
+pub mod MachineStands
+pub mod MachineOf
+pub mod MachineSays
+pub mod Asking

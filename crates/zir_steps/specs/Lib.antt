@@ -1,0 +1,4 @@
+pub mod History
+pub mod Elements
+pub mod Says
+pub mod Rows
