@@ -8,7 +8,6 @@ use Rattle.zir_meaning.specs.Trace.{State}
 use Rattle.zir_meaning.specs.Composition.{limit}
 use Rattle.zir_laws.specs.Process.{Proc, Gives, Ends, Needs, spent_proc, NextProc, then_proc, tick_proc_of, turns_proc, proc}
 use Rattle.zir_laws.proofs.Bounded.{Bounded, bounded-proc}
-use Rattle.zir_laws.proofs.Counts.{Counts, counts-proc}
 use Rattle.zir_laws.proofs.Equations.{funext, then-assoc}
 
 -- at an end with a value no more than n ticks are left
@@ -20,18 +19,18 @@ Shrinks n (Ends (Trapped c) s) = Unit {0}
 Shrinks n (Ends Spent s) = Unit {0}
 Shrinks n (Needs s f) = (x : Val) → Shrinks n (f x)
 
--- a process that counts from t ticks and is bounded by n of them
-shrinks : (p : Proc) (k t n m : ℕ) → Counts k t p → Bounded n p → n ≤ t + m → Shrinks m p
-shrinks (Gives o p) k t n m h b le = shrinks p k o.at.ticks n m h.2 b.1 (omega (arith, h.1))
-shrinks (Ends (Value v) s) k t n m h b le = omega (arith, h.1)
-shrinks (Ends Starved s) k t n m h b le = tt
-shrinks (Ends (Trapped c) s) k t n m h b le = tt
-shrinks (Ends Spent s) k t n m h b le = tt
-shrinks (Needs s f) k t n m h b le = λ x. shrinks (f x) (k + 1) s.ticks n m (h.2 x) (b.1 x) (omega (arith, h.1))
+-- a process that is bounded by n ticks from t of them on
+shrinks : (p : Proc) (t n m : ℕ) → Bounded n t p → n ≤ t + m → Shrinks m p
+shrinks (Gives o p) t n m h le = shrinks p o.at.ticks n m h.2 (omega (arith, h.0))
+shrinks (Ends (Value v) s) t n m h le = omega (arith, h.0)
+shrinks (Ends Starved s) t n m h le = tt
+shrinks (Ends (Trapped c) s) t n m h le = tt
+shrinks (Ends Spent s) t n m h le = tt
+shrinks (Needs s f) t n m h le = λ x. shrinks (f x) (s.ticks + 1) n m (h.2 x) (omega (arith, h.0))
 
 -- the process of each component ends with no more ticks than it began with
 pub shrinks-proc : (c : Comp) (s : State) → Shrinks s.left (proc c s)
-shrinks-proc c s = shrinks (proc c s) s.taken s.ticks (limit s) s.left (counts-proc c s) (bounded-proc c (limit s) s refl) (omega arith)
+shrinks-proc c s = shrinks (proc c s) s.ticks (limit s) s.left (bounded-proc c (limit s) s refl) (omega arith)
 
 -- what follows may differ where more ticks would be left
 then-same : (p : Proc) (n : ℕ) (f g : NextProc) → Shrinks n p → ((v : Val) (s : State) → s.left ≤ n → f v s ≡ g v s) → then_proc p f ≡ then_proc p g

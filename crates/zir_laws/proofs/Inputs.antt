@@ -59,24 +59,24 @@ end-stands e n store k s2 t b =
     ∙ ap (λ s. ends e s []) (at_own_point n store s2 b)
 
 -- a process that has taken k elements of an input, over the rest of it
-feed-input : (p : Proc) (n k t : ℕ) (store : Store) → Counts k t p → Bounded n p → (xs : List Val) →
+feed-input : (p : Proc) (n k t u : ℕ) (store : Store) → Counts k t p → Bounded n u p → (xs : List Val) →
     feed (begin n store) p (element_point store k) (from_input store k xs) ≡ no_rest (run p xs)
-feed-input (Gives o p) n k t store h b xs =
+feed-input (Gives o p) n k t u store h b xs =
     ap (λ q. within (nat_le q.ticks (limit (begin n store))) (gives (record { value = o.value; at = q }) (feed (begin n store) p (element_point store k) (from_input store k xs))))
     (over-element store k o.at h.0)
-    ∙ stands-within n store o.at _ b.0
-    ∙ ap (gives o) (feed-input p n k o.at.ticks store h.2 b.1 xs)
-feed-input (Ends (Value v) s2) n k t store h b xs = end-stands (Value v) n store k s2 h.0 b
-feed-input (Ends Starved s2) n k t store h b xs = absurd h
-feed-input (Ends (Trapped c) s2) n k t store h b xs = end-stands (Trapped c) n store k s2 h.0 b
-feed-input (Ends Spent s2) n k t store h b xs = within-spent _
-feed-input (Needs s2 f) n k t store h b [] = end-stands Starved n store k s2 h.0 b.0
-feed-input (Needs s2 f) n k t store h b (x ∷ xs) = feed-input (f x) n (k + 1) s2.ticks store (h.2 x) (b.1 x) xs
+    ∙ stands-within n store o.at _ b.1
+    ∙ ap (gives o) (feed-input p n k o.at.ticks o.at.ticks store h.2 b.2 xs)
+feed-input (Ends (Value v) s2) n k t u store h b xs = end-stands (Value v) n store k s2 h.0 b.1
+feed-input (Ends Starved s2) n k t u store h b xs = absurd h
+feed-input (Ends (Trapped c) s2) n k t u store h b xs = end-stands (Trapped c) n store k s2 h.0 b.1
+feed-input (Ends Spent s2) n k t u store h b xs = within-spent _
+feed-input (Needs s2 f) n k t u store h b [] = end-stands Starved n store k s2 h.0 b.1
+feed-input (Needs s2 f) n k t u store h b (x ∷ xs) = feed-input (f x) n (k + 1) s2.ticks (s2.ticks + 1) store (h.2 x) (b.2 x) xs
 
 -- over the elements of an input the trace is the component's own
 pub from_input-trace : FromInput
 from_input-trace c n store xs =
     let s : State = begin n store in
     feeds c s (from_input store 0 xs)
-    ∙ feed-input (proc c s) n 0 0 store (counts-proc c s) (bounded-proc c n s (omega arith)) xs
+    ∙ feed-input (proc c s) n 0 0 0 store (counts-proc c s) (bounded-proc c n s (omega arith)) xs
     ∙ ap no_rest (run-proc c s xs)

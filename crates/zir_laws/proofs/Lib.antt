@@ -11,3 +11,4 @@ pub mod Feed
 pub mod Inputs
 pub mod Prefix
 pub mod Budget
+pub mod Cost
