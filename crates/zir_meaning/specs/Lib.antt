@@ -7,4 +7,5 @@ pub mod Received
 pub mod Samples
 pub mod Run
 pub mod Rows
+pub mod Notes
 pub mod Answer

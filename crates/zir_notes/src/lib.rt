@@ -5,7 +5,8 @@ ghost use Rattle.std.specs.Prelude.{◌≡◌, ◌+◌, ◌≤◌, ◌++◌, cod
 ghost use Rattle.arrayvec.specs.ArrayString.{array_string_len};
 ghost use Rattle.zir_outside.specs.Causes.{HasCause};
 ghost use Rattle.zir_outside.specs.Sinks.{Grew, GrewPart, Tells};
-ghost use Rattle.zir_notes.specs.Notes.{counts_of, line_of, note_of, number_line, run_end_of, spelling_of};
+ghost use Rattle.zir_meaning.specs.Notes.{counts_of, line_of, note_of, number_line, spelling_of};
+ghost use Rattle.zir_notes.specs.Endings.{run_end_of};
 
 use arrayvec::ArrayString;
 use itoa::Buffer;

@@ -1,12 +1,11 @@
--- What the top call claims: its status, and what became of the output, by the words, the texts and the input.
-use Rattle.std.specs.Prelude.{ℕ, ◌≡◌, ◌⊎◌, List, Option, Some, true}
+-- What the top call claims: its status, and what became of the output and the notes, by the words, the texts and the input.
+use Rattle.std.specs.Prelude.{ℕ, ◌≡◌, ◌⊎◌, List, Option, Some}
 use Rattle.zir_tree.specs.declared.tree.Prog.{Prog}
 use Rattle.zir_meaning.specs.Answer.{Answer, answer_of}
 use Rattle.zir_outside.specs.Loads.{Texts, IsAbsent}
 use Rattle.zir_outside.specs.Sinks.{Grew}
 use Rattle.zir_words.specs.Words.{IsRun}
 use Rattle.zir_front.specs.Program.{IsProgram}
-use Rattle.zir_run.specs.Plain.{is_plain}
 
 -- the words are of no form
 abbrev pub AreBad : List (List ℕ) → Type 0
@@ -24,14 +23,9 @@ pub record Asks (words : List (List ℕ)) (told : Texts) (n : ℕ) (text : List 
   pub tells : told ≡ Some texts
   pub has : texts name ≡ Some text
 
--- the text is this program, and the program is of a form that runs so far
-pub record Runs (text : List ℕ) (program : Prog) : Type 0 where
-  pub is : IsProgram text program
-  pub plain : is_plain program.main ≡ true
-
--- the text is too long, no program, or a program of a form that does not run yet
+-- the text is too long or no program
 abbrev pub IsRefused : List ℕ → Type 0
-IsRefused text = (program : Prog) → Runs text program → ⊥
+IsRefused text = (program : Prog) → IsProgram text program → ⊥
 
 -- the definition answers so: for the ticks and the text that the words ask for, over all bytes that the input has left
 pub record Means (words : List (List ℕ)) (told : Texts) (left : Option (List ℕ)) (a : Answer) : Type 0 where
@@ -40,17 +34,23 @@ pub record Means (words : List (List ℕ)) (told : Texts) (left : Option (List �
   pub program : Prog
   pub input : List ℕ
   pub asks : Asks words told ticks text
-  pub runs : Runs text program
+  pub runs : IsProgram text program
   pub has : left ≡ Some input
   pub is : a ≡ answer_of ticks program input
 
--- a run that ended with this status: it is the definition's, and the output grew by exactly the definition's bytes
-abbrev pub EndsAs : ℕ → Answer → (List ℕ → Type 0) → (List ℕ → Type 0) → Type 0
-EndsAs status a old new = (a.status ≡ status) × Grew old new a.out
+-- a run that ended with this status: it is the definition's, and the output and the notes grew by exactly the definition's bytes
+pub record EndsAs (status : ℕ) (a : Answer) (old new notes_old notes_new : List ℕ → Type 0) : Type 0 where
+  pub status_is : a.status ≡ status
+  pub out : Grew old new a.out
+  pub notes : Grew notes_old notes_new a.notes
 
 -- the status is the definition's, or tells of a failed load, read or put, or of want of memory
 abbrev pub IsTold : ℕ → Answer → Type 0
 IsTold status a = (status ≡ a.status) ⊎ (status ≡ 3) ⊎ (status ≡ 7) ⊎ (status ≡ 8) ⊎ (status ≡ 9)
+
+-- the run came to its end: its value or the end of its input, a trap, or a spent budget
+abbrev pub IsEnded : ℕ → Type 0
+IsEnded status = (status ≡ 0) ⊎ (status ≡ 4) ⊎ (status ≡ 5)
 
 -- the run broke off: at a failed read, at a failed put, or for want of memory
 abbrev pub IsBroken : ℕ → Type 0
@@ -59,3 +59,7 @@ IsBroken status = (status ≡ 7) ⊎ (status ≡ 8) ⊎ (status ≡ 9)
 -- nothing was run: bad words, a refused text, or none
 abbrev pub IsUnrun : ℕ → Type 0
 IsUnrun status = (status ≡ 1) ⊎ (status ≡ 2) ⊎ (status ≡ 3)
+
+-- the statuses without a note
+abbrev pub IsQuiet : ℕ → Type 0
+IsQuiet status = IsUnrun status ⊎ (status ≡ 4) ⊎ (status ≡ 7) ⊎ (status ≡ 9)

@@ -1,5 +1,3 @@
-pub mod Values
-pub mod Plain
-pub mod Engine
 pub mod Claim
 pub mod Loading
+pub mod Reports

@@ -1,14 +1,11 @@
--- What the load of a program answers, and the statuses that tell of it and of a run.
+-- What the load of a program answers, and the statuses that tell of it.
 use Rattle.std.specs.Prelude.{ℕ, ◌≡◌, ⊤, List, Option, Some, Result, Ok, Err}
 use Rattle.zir_tree.specs.declared.tree.Prog.{Prog}
 use Rattle.zir_outside.specs.Loads.{Texts}
-use Rattle.zir_run.specs.declared.engine.Ended.{Ended}
-use Rattle.zir_run.specs.declared.engine.Ended.TheVariants as ended
-use Rattle.zir_run.specs.declared.engine.RunError.{RunError}
-use Rattle.zir_run.specs.declared.engine.RunError.TheVariants as broke
+use Rattle.zir_front.specs.Program.{IsProgram}
 use Rattle.zir_run.specs.declared.load.Refusal.{Refusal}
 use Rattle.zir_run.specs.declared.load.Refusal.TheVariants.{NotLoaded, Refused, Memory}
-use Rattle.zir_run.specs.Claim.{Runs, IsRefused}
+use Rattle.zir_run.specs.Claim.{IsRefused}
 
 -- the shelf tells that the name has this text
 abbrev pub Has : Texts → List ℕ → List ℕ → Type 0
@@ -16,7 +13,7 @@ Has told name text = (texts : List ℕ → Option (List ℕ)) × (told ≡ Some 
 
 -- what is answered for a text: the one program that it is, or why there is none
 abbrev pub Reads : List ℕ → Result Prog Refusal → Type 0
-Reads text (Ok p) = Runs text p × ((q : Prog) → Runs text q → p ≡ q)
+Reads text (Ok p) = IsProgram text p × ((q : Prog) → IsProgram text q → p ≡ q)
 Reads text (Err Refused) = IsRefused text
 Reads text (Err NotLoaded) = ⊤
 Reads text (Err Memory) = ⊤
@@ -26,12 +23,3 @@ abbrev pub refusal_status : Refusal → ℕ
 refusal_status NotLoaded = 3
 refusal_status Refused = 2
 refusal_status Memory = 9
-
--- the status of a run
-abbrev pub run_status : Result Ended RunError → ℕ
-run_status (Ok ended.Value) = 0
-run_status (Ok ended.Starved) = 0
-run_status (Ok ended.Spent) = 5
-run_status (Err broke.Read) = 7
-run_status (Err broke.Write) = 8
-run_status (Err broke.Memory) = 9

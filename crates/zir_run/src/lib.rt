@@ -4,17 +4,14 @@
 ghost use Rattle.std.specs.Prelude.{ℕ, List, ◌≡◌, ◌⊎◌, ◌↔◌, map, string_bytes};
 ghost use Rattle.zir_meaning.specs.Answer.{Answer};
 ghost use Rattle.zir_outside.specs.Causes.{Rose};
-ghost use Rattle.zir_outside.specs.Sinks.{GrewPart, Tells};
-ghost use Rattle.zir_run.specs.Claim.{AreBad, LacksText, Asks, IsRefused, Means, EndsAs, IsTold, IsBroken, IsUnrun};
-ghost use Rattle.zir_run.specs.Loading.{run_status};
+ghost use Rattle.zir_outside.specs.Sinks.{GrewPart};
+ghost use Rattle.zir_run.specs.Claim.{AreBad, LacksText, Asks, IsRefused, Means, EndsAs, IsTold, IsEnded, IsBroken, IsUnrun, IsQuiet};
 
-mod engine;
-mod eval;
 mod load;
-mod plain;
+mod run;
 
-use engine::{Ended, RunError, run_component};
 use load::load;
+use run::run;
 use std::alloc::Global;
 use zir_outside::{Gate, Shelf, Sink, Source};
 use zir_words::{ask_once, read_words};
@@ -23,7 +20,8 @@ use zir_words::{ask_once, read_words};
 const BAD_WORDS: u8 = 1;
 
 /// Does all that the program does: reads the words `run --ticks N NAME`, loads the text NAME from the shelf, runs its
-/// program over the bits of `input` with N ticks, and writes the bits of its output to `out`. It answers the status.
+/// program over the bits of `input` with N ticks, writes the bits of its output to `out`, and puts a note on how the run
+/// ended to `notes`. It answers the status.
 pub fn ziria<H: Shelf, S: Source + Send, K: Sink + Send, N: Sink, G: Gate + Sync>(
     alloc: Global,
     words: &[String],
@@ -41,20 +39,20 @@ pub fn ziria<H: Shelf, S: Source + Send, K: Sink + Send, N: Sink, G: Gate + Sync
     // 2 comes exactly where the text is refused, unless its load failed or memory ran out.
     ensures refused { (n : ℕ) (text : List ℕ) → result ≡ 2 → Asks (map string_bytes words.now) (H.texts shelf.old) n text → IsRefused text }
     ensures refuses { (n : ℕ) (text : List ℕ) → Asks (map string_bytes words.now) (H.texts shelf.old) n text → IsRefused text → (result ≡ 2) ⊎ (result ≡ 3) ⊎ (result ≡ 9) }
-    // 0 and 5 come only where the definition says so, and the output grew by exactly its bytes.
-    ensures ended { (a : Answer) → result ≡ 0 → Means (map string_bytes words.now) (H.texts shelf.old) (S.left input.old) a → EndsAs 0 a (K.stands_for out.old) (K.stands_for out.new) }
-    ensures spent { (a : Answer) → result ≡ 5 → Means (map string_bytes words.now) (H.texts shelf.old) (S.left input.old) a → EndsAs 5 a (K.stands_for out.old) (K.stands_for out.new) }
-    // 7 comes only where a read failed, 8 only where a put failed.
+    // 0, 4 and 5 come only where the definition says so, and the output and the notes grew by exactly its bytes.
+    ensures ended { (a : Answer) → IsEnded result → Means (map string_bytes words.now) (H.texts shelf.old) (S.left input.old) a → EndsAs result a (K.stands_for out.old) (K.stands_for out.new) (N.stands_for notes.old) (N.stands_for notes.new) }
+    // 7 comes only where a read failed, 8 only where a put failed, of the output or of the notes.
     ensures read_fault { result ≡ 7 → Rose (S.faults input.old) (S.faults input.new) }
-    ensures write_fault { result ≡ 8 → Rose (K.faults out.old) (K.faults out.new) }
-    // At 7, 8 and 9 the output grew by a front part of the definition's bytes.
+    ensures write_fault { result ≡ 8 → Rose (K.faults out.old) (K.faults out.new) ⊎ Rose (N.faults notes.old) (N.faults notes.new) }
+    // At 7, 8 and 9 the output grew by a front part of the definition's bytes, and at 8 so did the notes.
     ensures prefix { (a : Answer) → IsBroken result → Means (map string_bytes words.now) (H.texts shelf.old) (S.left input.old) a → GrewPart a.out (K.stands_for out.old) (K.stands_for out.new) }
+    ensures note_prefix { (a : Answer) → result ≡ 8 → Means (map string_bytes words.now) (H.texts shelf.old) (S.left input.old) a → GrewPart a.notes (N.stands_for notes.old) (N.stands_for notes.new) }
     // Where nothing failed and memory was there, the status is the definition's.
     ensures complete { (a : Answer) → Means (map string_bytes words.now) (H.texts shelf.old) (S.left input.old) a → IsTold result a }
-    // At 1, 2 and 3 nothing was read from the input or put on the output.
+    // At 1, 2 and 3 nothing was read from the input or put on the output, and but for 0, 5 and 8 no note was put.
     ensures untouched { IsUnrun result → (input.new ≡ input.old) × (out.new ≡ out.old) }
-    // No note is put, and the texts stay.
-    ensures notes { notes.new ≡ notes.old }
+    ensures quiet { IsQuiet result → notes.new ≡ notes.old }
+    // The texts stay.
     ensures texts { H.texts shelf.new ≡ H.texts shelf.old }
 {
     let Some(asked) = read_words(words) else {
@@ -62,21 +60,8 @@ pub fn ziria<H: Shelf, S: Source + Send, K: Sink + Send, N: Sink, G: Gate + Sync
     };
     ask_once();
     match load(alloc, asked.name, shelf) {
-        Ok(program) => status_of_run(run_component(alloc, &program.main, asked.ticks, input, out)),
+        Ok(program) => run(alloc, &program, asked.ticks, input, out, notes),
         Err(refusal) => refusal.status(),
-    }
-}
-
-/// The status that tells how a run ended.
-fn status_of_run(ran: Result<Ended, RunError>) -> u8
-    ensures { result ≡ run_status ran }
-{
-    match ran {
-        Ok(Ended::Value | Ended::Starved) => 0,
-        Ok(Ended::Spent) => 5,
-        Err(RunError::Read) => 7,
-        Err(RunError::Write) => 8,
-        Err(RunError::Memory) => 9,
     }
 }
 

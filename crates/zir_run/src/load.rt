@@ -1,12 +1,10 @@
 // The program that the words name, from its text.
 
-ghost use Rattle.std.specs.Prelude.{ℕ, List, ◌≡◌, ◌≤◌, ◌⊎◌, true, Err, IfOk, IsErrOf};
+ghost use Rattle.std.specs.Prelude.{ℕ, List, ◌≡◌, ◌⊎◌, Err, IsErrOf};
 ghost use Rattle.zir_outside.specs.Causes.{Rose};
 ghost use Rattle.zir_outside.specs.Loads.{IsAbsent};
 ghost use Rattle.zir_run.specs.Loading.{Has, Reads, refusal_status};
-ghost use Rattle.zir_run.specs.Plain.{is_plain as is_plain_of};
 
-use crate::plain::is_plain;
 use std::alloc::Global;
 use zir_front::{FrontError, read_program};
 use zir_outside::{LoadError, Shelf};
@@ -17,7 +15,7 @@ use zir_tree::tree::Prog;
 pub enum Refusal {
     /// The text was not loaded.
     NotLoaded,
-    /// The text is too long, no program, or of a form that does not run yet.
+    /// The text is too long or no program.
     Refused,
     /// There was no memory.
     Memory,
@@ -39,7 +37,6 @@ impl Refusal {
 /// The program in the text of this name.
 pub fn load<H: Shelf>(alloc: Global, name: &str, shelf: &mut H) -> Result<Prog, Refusal>
     ensures reads { (text : List ℕ) → Has (H.texts shelf.old) name.now text → Reads text result }
-    ensures plain { IfOk result (λ p. is_plain_of p.main ≡ true) }
     ensures absent { IsAbsent (H.texts shelf.old) name.now → result ≡ Err Refusal.NotLoaded }
     ensures same { H.texts shelf.new ≡ H.texts shelf.old }
     ensures cause { IsErrOf result Refusal.NotLoaded → Rose (H.faults shelf.old) (H.faults shelf.new) ⊎ IsAbsent (H.texts shelf.old) name.now }
@@ -53,20 +50,13 @@ pub fn load<H: Shelf>(alloc: Global, name: &str, shelf: &mut H) -> Result<Prog, 
     }
 }
 
-/// The program in a text, of a form that runs.
+/// The program in a text.
 fn accept(alloc: Global, text: &[u8]) -> Result<Prog, Refusal>
     ensures reads { Reads text.now result }
-    ensures plain { IfOk result (λ p. is_plain_of p.main ≡ true) }
     ensures loaded { IsErrOf result Refusal.NotLoaded → ⊥ }
 {
     match read_program(alloc, text) {
-        Ok(program) => {
-            if is_plain(&program.main) {
-                Ok(program)
-            } else {
-                Err(Refusal::Refused)
-            }
-        }
+        Ok(program) => Ok(program),
         Err(FrontError::Refused) => Err(Refusal::Refused),
         Err(FrontError::Memory) => Err(Refusal::Memory),
     }

@@ -1,29 +1,34 @@
-use Rattle.std.proofs.Common.{map, sym, ◌∙◌, subst, arith}
+use Rattle.std.proofs.Common.{map, sym, ◌∙◌, subst}
 use Rattle.std.specs.Prelude.{string_bytes}
-use Rattle.zir_run.specs.Claim.{IsTold, IsBroken}
-use Rattle.zir_run.proofs.Claims.{asks_has, means_loaded, ran_ends, ran_breaks, ran_told, refused_told, unloaded_told, untouched_part}
+use Rattle.zir_outside.specs.Sinks.{GrewPart}
+use Rattle.zir_run.specs.Claim.{EndsAs, IsTold}
+use Rattle.zir_run.proofs.Claims.{asks_has, means_loaded, refused_told, unloaded_told}
+use Rattle.zir_run.proofs.Runs.{untouched_part}
 use Rattle.zir_run.proofs.ziria.Goals as goal
+
+pub returns-in-Ok-clause-refuses : goal.returns-in-Ok-clause-refuses
+returns-in-Ok-clause-refuses g c n text asks refused =
+    absurd (refused c.in-Ok.program (c.in-Ok.ensures.reads text (asks_has c.ask_once.ensures (map string_bytes c.args.words.now) (g.H.Shelf.texts c.args.shelf.now) n c.in-Some.asked.ticks c.in-Some.asked.name.now text c.in-Some.ensures.some asks)).0)
 
 pub returns-in-Ok-clause-ended : goal.returns-in-Ok-clause-ended
 returns-in-Ok-clause-ended g c a is m =
-    let l = means_loaded c.ask_once.ensures (map string_bytes c.args.words.now) (g.H.Shelf.texts c.args.shelf.now) (g.S.Source.left c.args.input.now) a c.in-Some.asked.ticks c.in-Some.asked.name.now c.in-Ok.program c.in-Some.ensures.some c.in-Ok.ensures.reads m in
-    ran_ends c.run_component.result 0 c.in-Some.asked.ticks c.in-Ok.program l.0 a (g.K.Sink.stands_for c.args.out.now) (g.K.Sink.stands_for c.run_component.new.out) (omega arith) (sym c.status_of_run.ensures ∙ is) l.2 (c.run_component.ensures.done l.0 l.1)
-
-pub returns-in-Ok-clause-spent : goal.returns-in-Ok-clause-spent
-returns-in-Ok-clause-spent g c a is m =
-    let l = means_loaded c.ask_once.ensures (map string_bytes c.args.words.now) (g.H.Shelf.texts c.args.shelf.now) (g.S.Source.left c.args.input.now) a c.in-Some.asked.ticks c.in-Some.asked.name.now c.in-Ok.program c.in-Some.ensures.some c.in-Ok.ensures.reads m in
-    ran_ends c.run_component.result 5 c.in-Some.asked.ticks c.in-Ok.program l.0 a (g.K.Sink.stands_for c.args.out.now) (g.K.Sink.stands_for c.run_component.new.out) (omega arith) (sym c.status_of_run.ensures ∙ is) l.2 (c.run_component.ensures.done l.0 l.1)
+    means_loaded c.ask_once.ensures (map string_bytes c.args.words.now) (g.H.Shelf.texts c.args.shelf.now) (g.S.Source.left c.args.input.now) a c.in-Some.asked.ticks c.in-Some.asked.name.now c.in-Ok.program
+    (λ a. EndsAs c.run.result a (g.K.Sink.stands_for c.args.out.now) (g.K.Sink.stands_for c.run.new.out) (g.N.Sink.stands_for c.args.notes.now) (g.N.Sink.stands_for c.run.new.notes)) c.in-Some.ensures.some c.in-Ok.ensures.reads m (λ input left. c.run.ensures.ended input left is)
 
 pub returns-in-Ok-clause-prefix : goal.returns-in-Ok-clause-prefix
 returns-in-Ok-clause-prefix g c a broken m =
-    let l = means_loaded c.ask_once.ensures (map string_bytes c.args.words.now) (g.H.Shelf.texts c.args.shelf.now) (g.S.Source.left c.args.input.now) a c.in-Some.asked.ticks c.in-Some.asked.name.now c.in-Ok.program c.in-Some.ensures.some c.in-Ok.ensures.reads m in
-    ran_breaks c.run_component.result c.in-Some.asked.ticks c.in-Ok.program l.0 a (g.K.Sink.stands_for c.args.out.now) (g.K.Sink.stands_for c.run_component.new.out) (subst IsBroken c.status_of_run.ensures broken) l.2 (c.run_component.ensures.failed l.0 l.1)
+    means_loaded c.ask_once.ensures (map string_bytes c.args.words.now) (g.H.Shelf.texts c.args.shelf.now) (g.S.Source.left c.args.input.now) a c.in-Some.asked.ticks c.in-Some.asked.name.now c.in-Ok.program
+    (λ a. GrewPart a.out (g.K.Sink.stands_for c.args.out.now) (g.K.Sink.stands_for c.run.new.out)) c.in-Some.ensures.some c.in-Ok.ensures.reads m (λ input left. c.run.ensures.prefix input left broken)
+
+pub returns-in-Ok-clause-note_prefix : goal.returns-in-Ok-clause-note_prefix
+returns-in-Ok-clause-note_prefix g c a fault m =
+    means_loaded c.ask_once.ensures (map string_bytes c.args.words.now) (g.H.Shelf.texts c.args.shelf.now) (g.S.Source.left c.args.input.now) a c.in-Some.asked.ticks c.in-Some.asked.name.now c.in-Ok.program
+    (λ a. GrewPart a.notes (g.N.Sink.stands_for c.args.notes.now) (g.N.Sink.stands_for c.run.new.notes)) c.in-Some.ensures.some c.in-Ok.ensures.reads m (λ input left. c.run.ensures.note_prefix input left fault)
 
 pub returns-in-Ok-clause-complete : goal.returns-in-Ok-clause-complete
 returns-in-Ok-clause-complete g c a m =
-    let l = means_loaded c.ask_once.ensures (map string_bytes c.args.words.now) (g.H.Shelf.texts c.args.shelf.now) (g.S.Source.left c.args.input.now) a c.in-Some.asked.ticks c.in-Some.asked.name.now c.in-Ok.program c.in-Some.ensures.some c.in-Ok.ensures.reads m in
-    subst (λ k. IsTold k a) (sym c.status_of_run.ensures)
-    (ran_told c.run_component.result c.in-Some.asked.ticks c.in-Ok.program l.0 a (g.K.Sink.stands_for c.args.out.now) (g.K.Sink.stands_for c.run_component.new.out) l.2 (c.run_component.ensures.done l.0 l.1))
+    means_loaded c.ask_once.ensures (map string_bytes c.args.words.now) (g.H.Shelf.texts c.args.shelf.now) (g.S.Source.left c.args.input.now) a c.in-Some.asked.ticks c.in-Some.asked.name.now c.in-Ok.program
+    (IsTold c.run.result) c.in-Some.ensures.some c.in-Ok.ensures.reads m c.run.ensures.told
 
 pub returns-in-Err-clause-refused : goal.returns-in-Err-clause-refused
 returns-in-Err-clause-refused g c n text is asks =
@@ -31,7 +36,8 @@ returns-in-Err-clause-refused g c n text is asks =
     (c.in-Err.ensures.reads text (asks_has c.ask_once.ensures (map string_bytes c.args.words.now) (g.H.Shelf.texts c.args.shelf.now) n c.in-Some.asked.ticks c.in-Some.asked.name.now text c.in-Some.ensures.some asks))
 
 pub returns-in-Err-clause-prefix : goal.returns-in-Err-clause-prefix
-returns-in-Err-clause-prefix g c a broken m = untouched_part a.out (g.K.Sink.stands_for c.args.out.now)
+returns-in-Err-clause-prefix g c a broken m =
+    untouched_part a.out (g.K.Sink.stands_for c.args.out.now)
 
 pub returns-in-Err-clause-complete : goal.returns-in-Err-clause-complete
 returns-in-Err-clause-complete g c a m =

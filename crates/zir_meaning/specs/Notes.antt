@@ -1,16 +1,14 @@
 -- What the notes say of how a run ended, byte for byte.
 use Rattle.std.specs.Prelude.{ℕ, true, false, List, [], ◌++◌, codes, decimal}
 use Rattle.zir_tree.specs.declared.value.Val.{Val}
-use Rattle.zir_tree.specs.declared.value.Val.TheVariants.{Unit as UnitValue, Bit}
+use Rattle.zir_tree.specs.declared.value.Val.TheVariants.{Unit as UnitVal, Bit as BitVal}
 use Rattle.zir_meaning.specs.Run.{RunEnd, ByValue, ByInput, ByTrap, ByBudget, ByReadFault}
-use Rattle.zir_notes.specs.declared.Ending.{Ending}
-use Rattle.zir_notes.specs.declared.Ending.TheVariants.{Value, Input, Spent}
 
 -- a value as a program spells it
 abbrev pub spelling_of : Val → List ℕ
-spelling_of UnitValue = codes "()"
-spelling_of (Bit false) = codes "'0"
-spelling_of (Bit true) = codes "'1"
+spelling_of UnitVal = codes "()"
+spelling_of (BitVal false) = codes "'0"
+spelling_of (BitVal true) = codes "'1"
 
 -- a text as a line of its own
 abbrev pub line_of : List ℕ → List ℕ
@@ -31,9 +29,3 @@ note_of ByInput ticks taken written = line_of (codes "input ended") ++ counts_of
 note_of (ByTrap t) ticks taken written = []
 note_of ByBudget ticks taken written = number_line (codes "out of ticks ") ticks ++ number_line (codes "written ") written
 note_of ByReadFault ticks taken written = []
-
--- the end of a run that an ending tells of
-abbrev pub run_end_of : Ending → RunEnd
-run_end_of (Value v) = ByValue v
-run_end_of Input = ByInput
-run_end_of Spent = ByBudget
