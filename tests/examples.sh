@@ -1,0 +1,9 @@
+#!/bin/sh
+# Runs the commands of examples/README.md on the built program, where python3 is there.
+cd "$(dirname "$0")/.." || exit 1
+if ! command -v python3 >/dev/null; then
+    echo "examples: skipped, python3 is not there"
+    exit 0
+fi
+(cd crates/ziria && rt run -- run --ticks 1 ../../examples/xor.zir </dev/null >/dev/null) || exit 1
+exec python3 tests/examples.py
