@@ -202,3 +202,10 @@ pub moved_more : (step : History → History) (stands_for stands_now : History �
 moved_more step stands_for stands_now a last d d' own own' (Ok (Some b)) w l counts less = (fits_some b last l, omega (arith, skip_few b))
 moved_more step stands_for stands_now a last d d' own own' (Ok None) w l counts less = absurd w
 moved_more step stands_for stands_now a last d d' own own' (Err e) w l counts less = tt
+
+-- the run is over behind a turn, whatever name its component has
+pub over_from : {K : Type 0} (stands_for stands_now : History → Type 0) (sinks : K → List ℕ → Type 0) (before mid now : K) (told left left' : Option (List ℕ)) (d d' : Driver) (c c' : Comp) (n : ℕ) (a : Answer) (last : Option Answer) →
+    c ≡ c' → (Goes stands_for sinks before mid told left d c n a → Over stands_now sinks before now told left' d' c n last) →
+    Goes stands_for sinks before mid told left d c' n a → Over stands_now sinks before now told left' d' c' n last
+over_from stands_for stands_now sinks before mid now told left left' d d' c c' n a last e f =
+    subst (λ c. Goes stands_for sinks before mid told left d c n a → Over stands_now sinks before now told left' d' c n last) e f

@@ -62,7 +62,7 @@ fn work<W: Worker>(worker: &mut W) -> Result<Option<Answer>, DriveError>
 }
 
 /// How the component of a worker ended, and how many elements it took.
-fn told<W: Worker>(worker: &W) -> (Ended, u64)
+fn end_of<W: Worker>(worker: &W) -> (Ended, u64)
     requires { tells_end (W.last worker.now) ≡ true }
     ensures { (h : History) → W.stands_for worker.now h → Rises h → Tells result (trace_over h) }
 {
@@ -92,12 +92,12 @@ impl Driver {
 
     /// Drives a worker to its end.
     pub fn run<W: Worker, S: Source, K: Sink>(
-        &mut self,
+        mut self,
         worker: &mut W,
         input: &mut S,
         out: &mut K,
     ) -> Result<Outcome, DriveError>
-        requires new { IsFresh self.old }
+        requires new { IsFresh self }
         requires fresh { W.last worker.old ≡ None }
         requires bits { W.cells worker.old ≡ 1 }
         requires begins { Begins (W.stands_for worker.old) (W.component worker.old) }
@@ -253,7 +253,7 @@ impl Driver {
         ensures write { IsErrOf result DriveError.Write → Rose (K.faults out.old) (K.faults out.new) }
         ensures later { K.faults out.old ≤ K.faults out.new }
     {
-        let (end, taken) = told(worker);
+        let (end, taken) = end_of(worker);
         match self.writer.finish(out) {
             Ok(()) => Ok(Outcome {
                 end,

@@ -76,6 +76,6 @@ pub fn drive<W: Worker, S: Source, K: Sink>(
     ensures read { IsErrOf result DriveError.Read → Rose (S.faults input.old) (S.faults input.new) }
     ensures write { IsErrOf result DriveError.Write → Rose (K.faults out.old) (K.faults out.new) }
 {
-    let mut driver = Driver::open(alloc)?;
+    let driver = Driver::open(alloc)?;
     driver.run(worker, input, out)
 }

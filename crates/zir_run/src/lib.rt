@@ -49,6 +49,8 @@ pub fn ziria<H: Shelf, S: Source + Send, K: Sink + Send, N: Sink, G: Gate + Sync
     ensures note_prefix { (a : Answer) → result ≡ 8 → Means (map string_bytes words.now) (H.texts shelf.old) (S.left input.old) a → GrewPart a.notes (N.stands_for notes.old) (N.stands_for notes.new) }
     // Where nothing failed and memory was there, the status is the definition's.
     ensures complete { (a : Answer) → Means (map string_bytes words.now) (H.texts shelf.old) (S.left input.old) a → IsTold result a }
+    // No other status comes.
+    ensures status { IsUnrun result ⊎ IsEnded result ⊎ IsBroken result }
     // At 1, 2 and 3 nothing was read from the input or put on the output, and but for 0, 5 and 8 no note was put.
     ensures untouched { IsUnrun result → (input.new ≡ input.old) × (out.new ≡ out.old) }
     ensures quiet { IsQuiet result → notes.new ≡ notes.old }
