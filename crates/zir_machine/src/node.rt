@@ -124,6 +124,7 @@ fn depth(store: &Vec<Slot>) -> usize
 impl Node {
     /// Begins the component.
     #[cycle(entering)]
+    #[inline(always)]
     pub fn enter(
         &mut self,
         progress: &mut Progress,
@@ -368,6 +369,7 @@ impl Node {
     /// Works until an output, a need, the end, or until no fuel is left. An element that is offered is taken where the
     /// component needs one.
     #[cycle(stepping)]
+    #[inline(always)]
     pub fn step(
         &mut self,
         progress: &mut Progress,
@@ -455,6 +457,7 @@ fn next_part(
 
 /// A step of a block: the parts run one after the other.
 #[cycle(stepping)]
+#[inline(never)]
 fn step_row(
     parts: &mut Vec<Part>,
     span: &mut Span,
@@ -488,6 +491,7 @@ fn step_row(
 
 /// A step of a loop.
 #[cycle(stepping)]
+#[inline(never)]
 fn step_loop(
     body: &mut Box<Loop>,
     progress: &mut Progress,
@@ -544,6 +548,7 @@ impl Loop {
 
 /// A step of a composition.
 #[cycle(stepping)]
+#[inline(never)]
 fn step_link(
     link: &mut Box<Link>,
     progress: &mut Progress,
