@@ -98,163 +98,165 @@ fn repeated(
     Ok(text)
 }
 
+/// Texts, and their programs as `comp_text` shows them; None where a text is refused.
+const ROWS: [(&[u8], Option<&str>); 39] = [
+    (b"", None),
+    (
+        b"let comp main = read[bit] >>> repeat { x <- take; emit x ^ '1 } >>> write[bit]",
+        Some("repeat {x#1@1:40<-take@1:45;emit (x#1@1:56^'1@1:60)@1:58@1:51}@1:38@1:31"),
+    ),
+    (
+        b"let comp main =\n  read [bit]\n  >>> { x <- take; x <- take; take;\n    emit x ^ '0 ^ x; return x }\n  >>> repeat { emit '1; return () } >>> write [bit]\n",
+        Some(
+            "[{x#1@3:9<-take@3:14;x#2@3:20<-take@3:25;take@3:31;emit ((x#2@4:10^'0@4:14)@4:12^x#2@4:19)@4:17@4:5;return x#2@4:29@4:22}@3:7>>>repeat {emit '1@5:21@5:16;return ()@5:32@5:25}@5:14@5:7]@5:3",
+        ),
+    ),
+    (
+        b"let comp main = read[bit] >>> repeat { emit '1 } >>> (repeat { take; emit '0 } >>> { x <- take; return x }) >>> write[bit]",
+        Some(
+            "[repeat {emit '1@1:45@1:40}@1:38@1:31>>>[repeat {take@1:64;emit '0@1:75@1:70}@1:62@1:55>>>{x#1@1:86<-take@1:91;return x#1@1:104@1:97}@1:84]@1:80]@1:50",
+        ),
+    ),
+    (
+        b"let comp main = read[bit] >>> repeat { emit '1 } >>> repeat { emit '0 } >>> repeat { emit '1 } >>> write[bit]",
+        Some(
+            "[[repeat {emit '1@1:45@1:40}@1:38@1:31>>>repeat {emit '0@1:68@1:63}@1:61@1:54]@1:50>>>repeat {emit '1@1:91@1:86}@1:84@1:77]@1:73",
+        ),
+    ),
+    (
+        b"let comp main = read[bit] >>> ((repeat { x <- take; emit x })) >>> { y <- take; x <- take; emit y ^ x } >>> write[bit]",
+        Some(
+            "[repeat {x#1@1:42<-take@1:47;emit x#1@1:58@1:53}@1:40@1:33>>>{y#2@1:70<-take@1:75;x#3@1:81<-take@1:86;emit (y#2@1:97^x#3@1:101)@1:99@1:92}@1:68]@1:64",
+        ),
+    ),
+    (
+        b"let comp main = read[bit] >>> { main <- take; emit main } >>> write[bit]",
+        Some("{main#1@1:33<-take@1:41;emit main#1@1:52@1:47}@1:31"),
+    ),
+    (
+        b"let comp main = read[bit] >>> { return () } >>> write[bit]",
+        Some("{return ()@1:40@1:33}@1:31"),
+    ),
+    (
+        b"let comp main = read[bit] >>> { emit x; x <- take; emit x } >>> write[bit]",
+        None,
+    ),
+    (
+        b"let comp main = read[bit] >>> { x <- take; emit x } >>> repeat { emit x } >>> write[bit]",
+        None,
+    ),
+    (
+        b"let comp main = read[bit] >>> { emit '1 } >>> { take; emit '1 } >>> write[bit]",
+        None,
+    ),
+    (
+        b"let comp main = read[bit] >>> { emit '1 } >>> (repeat { emit '1 } >>> { emit '0 }) >>> write[bit]",
+        None,
+    ),
+    (
+        b"let comp main = read[bit] >>> repeat { return '1 } >>> write[bit]",
+        None,
+    ),
+    (
+        b"let comp main = read[bit] >>> repeat { x <- take; return x } >>> write[bit]",
+        None,
+    ),
+    (
+        b"let comp main = read[bit] >>> repeat { emit '1 } repeat { emit '1 } >>> write[bit]",
+        None,
+    ),
+    (
+        b"let comp main = read[bit] >>> repeat (repeat { emit '1 }) >>> write[bit]",
+        None,
+    ),
+    (
+        b"let comp main = read[bit] >>> { x <- take; emit x emit x } >>> write[bit]",
+        None,
+    ),
+    (
+        b"let comp main = read[bit] >>> { emit '1; } >>> write[bit]",
+        None,
+    ),
+    (
+        b"let comp main = read[bit] >>> { x <- take } >>> write[bit]",
+        None,
+    ),
+    (
+        b"let comp main = read[bit] >>> { take } >>> write[bit]",
+        None,
+    ),
+    (b"let comp main = read[bit] >>> { } >>> write[bit]", None),
+    (
+        b"let comp main = read[bit] >>> { return (); emit '1 } >>> write[bit]",
+        None,
+    ),
+    (
+        b"let comp main = read[bit] >>> { take <- take; emit '1 } >>> write[bit]",
+        None,
+    ),
+    (
+        b"let comp main = read[bit] >>> { x <- take; emit x ^ } >>> write[bit]",
+        None,
+    ),
+    (
+        b"let comp main = read[bit] >>> { emit ('1) } >>> write[bit]",
+        None,
+    ),
+    (
+        b"let comp main = read[bit] >>> { emit 1 } >>> write[bit]",
+        None,
+    ),
+    (
+        b"let comp main = read[bit] >>> { emit 'x } >>> write[bit]",
+        None,
+    ),
+    (b"let comp main = read[bit] >>> () >>> write[bit]", None),
+    (
+        b"let comp main = read[bit] >>> (repeat { emit '1 } >>> write[bit]",
+        None,
+    ),
+    (
+        b"let comp main = read[bit] >>> repeat { emit '1 }) >>> write[bit]",
+        None,
+    ),
+    (b"let comp main = read[bit] >>> write[bit]", None),
+    (
+        b"let comp main = read[bit] >>> { emit '1 } >>> write[bit",
+        None,
+    ),
+    (
+        b"let comp main = read[bit >>> { emit '1 } >>> write[bit]",
+        None,
+    ),
+    (
+        b"let comp main = read[bit] >>> { emit '1 } >>> write[bit] write",
+        None,
+    ),
+    (
+        b"let comp other = read[bit] >>> { emit '1 } >>> write[bit]",
+        None,
+    ),
+    (
+        b"let comp main = read[int] >>> { emit '1 } >>> write[bit]",
+        None,
+    ),
+    (
+        b"let comp main = read[bit] |>>>| { emit '1 } >>> write[bit]",
+        None,
+    ),
+    (
+        b"let comp main = read[bit] >>> { emit '1 } >>> write[bit] --",
+        None,
+    ),
+    (
+        b"let comp main = -- here\nread[bit] >>> { emit '1 } >>> write[bit]",
+        None,
+    ),
+];
+
 #[test]
 fn texts_give_their_programs_or_are_refused(rt: HostRuntime) -> Result<(), Fail> {
-    let rows: [(&[u8], Option<&str>); 39] = [
-        (b"", None),
-        (
-            b"let comp main = read[bit] >>> repeat { x <- take; emit x ^ '1 } >>> write[bit]",
-            Some("repeat {x#1@1:40<-take@1:45;emit (x#1@1:56^'1@1:60)@1:58@1:51}@1:38@1:31"),
-        ),
-        (
-            b"let comp main =\n  read [bit]\n  >>> { x <- take; x <- take; take;\n    emit x ^ '0 ^ x; return x }\n  >>> repeat { emit '1; return () } >>> write [bit]\n",
-            Some(
-                "[{x#1@3:9<-take@3:14;x#2@3:20<-take@3:25;take@3:31;emit ((x#2@4:10^'0@4:14)@4:12^x#2@4:19)@4:17@4:5;return x#2@4:29@4:22}@3:7>>>repeat {emit '1@5:21@5:16;return ()@5:32@5:25}@5:14@5:7]@5:3",
-            ),
-        ),
-        (
-            b"let comp main = read[bit] >>> repeat { emit '1 } >>> (repeat { take; emit '0 } >>> { x <- take; return x }) >>> write[bit]",
-            Some(
-                "[repeat {emit '1@1:45@1:40}@1:38@1:31>>>[repeat {take@1:64;emit '0@1:75@1:70}@1:62@1:55>>>{x#1@1:86<-take@1:91;return x#1@1:104@1:97}@1:84]@1:80]@1:50",
-            ),
-        ),
-        (
-            b"let comp main = read[bit] >>> repeat { emit '1 } >>> repeat { emit '0 } >>> repeat { emit '1 } >>> write[bit]",
-            Some(
-                "[[repeat {emit '1@1:45@1:40}@1:38@1:31>>>repeat {emit '0@1:68@1:63}@1:61@1:54]@1:50>>>repeat {emit '1@1:91@1:86}@1:84@1:77]@1:73",
-            ),
-        ),
-        (
-            b"let comp main = read[bit] >>> ((repeat { x <- take; emit x })) >>> { y <- take; x <- take; emit y ^ x } >>> write[bit]",
-            Some(
-                "[repeat {x#1@1:42<-take@1:47;emit x#1@1:58@1:53}@1:40@1:33>>>{y#2@1:70<-take@1:75;x#3@1:81<-take@1:86;emit (y#2@1:97^x#3@1:101)@1:99@1:92}@1:68]@1:64",
-            ),
-        ),
-        (
-            b"let comp main = read[bit] >>> { main <- take; emit main } >>> write[bit]",
-            Some("{main#1@1:33<-take@1:41;emit main#1@1:52@1:47}@1:31"),
-        ),
-        (
-            b"let comp main = read[bit] >>> { return () } >>> write[bit]",
-            Some("{return ()@1:40@1:33}@1:31"),
-        ),
-        (
-            b"let comp main = read[bit] >>> { emit x; x <- take; emit x } >>> write[bit]",
-            None,
-        ),
-        (
-            b"let comp main = read[bit] >>> { x <- take; emit x } >>> repeat { emit x } >>> write[bit]",
-            None,
-        ),
-        (
-            b"let comp main = read[bit] >>> { emit '1 } >>> { take; emit '1 } >>> write[bit]",
-            None,
-        ),
-        (
-            b"let comp main = read[bit] >>> { emit '1 } >>> (repeat { emit '1 } >>> { emit '0 }) >>> write[bit]",
-            None,
-        ),
-        (
-            b"let comp main = read[bit] >>> repeat { return '1 } >>> write[bit]",
-            None,
-        ),
-        (
-            b"let comp main = read[bit] >>> repeat { x <- take; return x } >>> write[bit]",
-            None,
-        ),
-        (
-            b"let comp main = read[bit] >>> repeat { emit '1 } repeat { emit '1 } >>> write[bit]",
-            None,
-        ),
-        (
-            b"let comp main = read[bit] >>> repeat (repeat { emit '1 }) >>> write[bit]",
-            None,
-        ),
-        (
-            b"let comp main = read[bit] >>> { x <- take; emit x emit x } >>> write[bit]",
-            None,
-        ),
-        (
-            b"let comp main = read[bit] >>> { emit '1; } >>> write[bit]",
-            None,
-        ),
-        (
-            b"let comp main = read[bit] >>> { x <- take } >>> write[bit]",
-            None,
-        ),
-        (
-            b"let comp main = read[bit] >>> { take } >>> write[bit]",
-            None,
-        ),
-        (b"let comp main = read[bit] >>> { } >>> write[bit]", None),
-        (
-            b"let comp main = read[bit] >>> { return (); emit '1 } >>> write[bit]",
-            None,
-        ),
-        (
-            b"let comp main = read[bit] >>> { take <- take; emit '1 } >>> write[bit]",
-            None,
-        ),
-        (
-            b"let comp main = read[bit] >>> { x <- take; emit x ^ } >>> write[bit]",
-            None,
-        ),
-        (
-            b"let comp main = read[bit] >>> { emit ('1) } >>> write[bit]",
-            None,
-        ),
-        (
-            b"let comp main = read[bit] >>> { emit 1 } >>> write[bit]",
-            None,
-        ),
-        (
-            b"let comp main = read[bit] >>> { emit 'x } >>> write[bit]",
-            None,
-        ),
-        (b"let comp main = read[bit] >>> () >>> write[bit]", None),
-        (
-            b"let comp main = read[bit] >>> (repeat { emit '1 } >>> write[bit]",
-            None,
-        ),
-        (
-            b"let comp main = read[bit] >>> repeat { emit '1 }) >>> write[bit]",
-            None,
-        ),
-        (b"let comp main = read[bit] >>> write[bit]", None),
-        (
-            b"let comp main = read[bit] >>> { emit '1 } >>> write[bit",
-            None,
-        ),
-        (
-            b"let comp main = read[bit >>> { emit '1 } >>> write[bit]",
-            None,
-        ),
-        (
-            b"let comp main = read[bit] >>> { emit '1 } >>> write[bit] write",
-            None,
-        ),
-        (
-            b"let comp other = read[bit] >>> { emit '1 } >>> write[bit]",
-            None,
-        ),
-        (
-            b"let comp main = read[int] >>> { emit '1 } >>> write[bit]",
-            None,
-        ),
-        (
-            b"let comp main = read[bit] |>>>| { emit '1 } >>> write[bit]",
-            None,
-        ),
-        (
-            b"let comp main = read[bit] >>> { emit '1 } >>> write[bit] --",
-            None,
-        ),
-        (
-            b"let comp main = -- here\nread[bit] >>> { emit '1 } >>> write[bit]",
-            None,
-        ),
-    ];
-    for (text, want) in rows {
+    for (text, want) in ROWS {
         match (read_program(rt.alloc(), text), want) {
             (Ok(prog), Some(want)) => {
                 let found = comp_text(rt.alloc(), &prog.main)?;
