@@ -4,7 +4,7 @@
 ghost use Rattle.std.specs.Prelude.{ℕ, List, ◌≡◌, ◌⊎◌, ◌↔◌, map, string_bytes};
 ghost use Rattle.zir_meaning.specs.Answer.{Answer};
 ghost use Rattle.zir_outside.specs.Causes.{Rose};
-ghost use Rattle.zir_outside.specs.Sinks.{GrewPart};
+ghost use Rattle.zir_outside.specs.Sinks.{Grew, GrewPart};
 ghost use Rattle.zir_run.specs.Claim.{AreBad, LacksText, Asks, IsRefused, Means, EndsAs, IsTold, IsEnded, IsBroken, IsUnrun, IsQuiet};
 
 mod load;
@@ -44,8 +44,11 @@ pub fn ziria<H: Shelf, S: Source + Send, K: Sink + Send, N: Sink, G: Gate + Sync
     // 7 comes only where a read failed, 8 only where a put failed, of the output or of the notes.
     ensures read_fault { result ≡ 7 → Rose (S.faults input.old) (S.faults input.new) }
     ensures write_fault { result ≡ 8 → Rose (K.faults out.old) (K.faults out.new) ⊎ Rose (N.faults notes.old) (N.faults notes.new) }
-    // At 7, 8 and 9 the output grew by a front part of the definition's bytes, and at 8 so did the notes.
+    // At 7, 8 and 9 the output grew by a front part of the definition's bytes.
     ensures prefix { (a : Answer) → IsBroken result → Means (map string_bytes words.now) (H.texts shelf.old) (S.left input.old) a → GrewPart a.out (K.stands_for out.old) (K.stands_for out.new) }
+    // At 8 without a failed put of the output it is whole.
+    ensures whole { (a : Answer) → result ≡ 8 → Means (map string_bytes words.now) (H.texts shelf.old) (S.left input.old) a → Rose (K.faults out.old) (K.faults out.new) ⊎ Grew (K.stands_for out.old) (K.stands_for out.new) a.out }
+    // At 8 the notes grew by a front part of the definition's.
     ensures note_prefix { (a : Answer) → result ≡ 8 → Means (map string_bytes words.now) (H.texts shelf.old) (S.left input.old) a → GrewPart a.notes (N.stands_for notes.old) (N.stands_for notes.new) }
     // Where nothing failed and memory was there, the status is the definition's.
     ensures complete { (a : Answer) → Means (map string_bytes words.now) (H.texts shelf.old) (S.left input.old) a → IsTold result a }

@@ -48,6 +48,7 @@ pub fn run<S: Source, K: Sink, N: Sink>(
     requires { ticks ≤ 2 ^ 48 }
     ensures ended { (bytes : List ℕ) → S.left input.old ≡ Some bytes → IsEnded result → EndsAs result (answer_of ticks program.now bytes) (K.stands_for out.old) (K.stands_for out.new) (N.stands_for notes.old) (N.stands_for notes.new) }
     ensures prefix { (bytes : List ℕ) → S.left input.old ≡ Some bytes → IsBroken result → GrewPart (answer_of ticks program.now bytes).out (K.stands_for out.old) (K.stands_for out.new) }
+    ensures whole { (bytes : List ℕ) → S.left input.old ≡ Some bytes → result ≡ 8 → Rose (K.faults out.old) (K.faults out.new) ⊎ Grew (K.stands_for out.old) (K.stands_for out.new) (answer_of ticks program.now bytes).out }
     ensures note_prefix { (bytes : List ℕ) → S.left input.old ≡ Some bytes → result ≡ 8 → GrewPart (answer_of ticks program.now bytes).notes (N.stands_for notes.old) (N.stands_for notes.new) }
     ensures told { (bytes : List ℕ) → S.left input.old ≡ Some bytes → IsTold result (answer_of ticks program.now bytes) }
     ensures statuses { IsEnded result ⊎ IsBroken result }

@@ -1,6 +1,7 @@
-use Rattle.std.proofs.Common.{map, sym, ◌∙◌, subst}
+use Rattle.std.proofs.Common.{map, ◌⊎◌, sym, ◌∙◌, subst}
 use Rattle.std.specs.Prelude.{string_bytes}
-use Rattle.zir_outside.specs.Sinks.{GrewPart}
+use Rattle.zir_outside.specs.Causes.{Rose}
+use Rattle.zir_outside.specs.Sinks.{Grew, GrewPart}
 use Rattle.zir_run.specs.Claim.{EndsAs, IsTold}
 use Rattle.zir_run.proofs.Claims.{asks_has, means_loaded, refused_told, unloaded_told}
 use Rattle.zir_run.proofs.Runs.{untouched_part}
@@ -19,6 +20,11 @@ pub returns-in-Ok-clause-prefix : goal.returns-in-Ok-clause-prefix
 returns-in-Ok-clause-prefix g c a broken m =
     means_loaded c.ask_once.ensures (map string_bytes c.args.words.now) (g.H.Shelf.texts c.args.shelf.now) (g.S.Source.left c.args.input.now) a c.in-Some.asked.ticks c.in-Some.asked.name.now c.in-Ok.program
     (λ a. GrewPart a.out (g.K.Sink.stands_for c.args.out.now) (g.K.Sink.stands_for c.run.new.out)) c.in-Some.ensures.some c.in-Ok.ensures.reads m (λ input left. c.run.ensures.prefix input left broken)
+
+pub returns-in-Ok-clause-whole : goal.returns-in-Ok-clause-whole
+returns-in-Ok-clause-whole g c a fault m =
+    means_loaded c.ask_once.ensures (map string_bytes c.args.words.now) (g.H.Shelf.texts c.args.shelf.now) (g.S.Source.left c.args.input.now) a c.in-Some.asked.ticks c.in-Some.asked.name.now c.in-Ok.program
+    (λ a. Rose (g.K.Sink.faults c.args.out.now) (g.K.Sink.faults c.run.new.out) ⊎ Grew (g.K.Sink.stands_for c.args.out.now) (g.K.Sink.stands_for c.run.new.out) a.out) c.in-Some.ensures.some c.in-Ok.ensures.reads m (λ input left. c.run.ensures.whole input left fault)
 
 pub returns-in-Ok-clause-note_prefix : goal.returns-in-Ok-clause-note_prefix
 returns-in-Ok-clause-note_prefix g c a fault m =

@@ -1,4 +1,4 @@
-use Rattle.std.proofs.Common.{subst}
+use Rattle.std.proofs.Common.{inr, subst}
 use Rattle.zir_meaning.specs.Answer.{answer_of}
 use Rattle.zir_outside.specs.Sinks.{GrewPart}
 use Rattle.zir_machine.specs.MachineOf.{standing_of}
@@ -23,6 +23,12 @@ returns-in-Ok-drive-clause-prefix g c bytes left broken =
     let both = ran_tells (comp_of c.in-Ok.machine.node) c.args.program.now.main (Stands (standing_of c.in-Ok.machine)) (Stands (standing_of c.drive.new.worker)) (g.S.Source.left c.args.input.now) c.args.ticks bytes c.in-Ok-drive.outcome (g.K.Sink.stands_for c.args.out.now) (g.K.Sink.stands_for c.drive.new.out)
     c.in-Ok.ensures.component c.in-Ok.ensures.stands left c.in-Ok-drive.ensures.done c.in-Ok-drive.ensures.value in
     whole_part (answer_of c.args.ticks c.args.program.now bytes).out (g.K.Sink.stands_for c.args.out.now) (g.K.Sink.stands_for c.drive.new.out) both.0.out
+
+pub returns-in-Ok-drive-clause-whole : goal.returns-in-Ok-drive-clause-whole
+returns-in-Ok-drive-clause-whole g c bytes left fault =
+    let both = ran_tells (comp_of c.in-Ok.machine.node) c.args.program.now.main (Stands (standing_of c.in-Ok.machine)) (Stands (standing_of c.drive.new.worker)) (g.S.Source.left c.args.input.now) c.args.ticks bytes c.in-Ok-drive.outcome (g.K.Sink.stands_for c.args.out.now) (g.K.Sink.stands_for c.drive.new.out)
+    c.in-Ok.ensures.component c.in-Ok.ensures.stands left c.in-Ok-drive.ensures.done c.in-Ok-drive.ensures.value in
+    inr both.0.out
 
 pub returns-in-Ok-drive-clause-note_prefix : goal.returns-in-Ok-drive-clause-note_prefix
 returns-in-Ok-drive-clause-note_prefix g c bytes left fault =
