@@ -5,5 +5,6 @@ if ! command -v python3 >/dev/null; then
     echo "examples: skipped, python3 is not there"
     exit 0
 fi
-(cd crates/ziria && rt run -- run --ticks 1 ../../examples/xor.zir </dev/null >/dev/null) || exit 1
+# The gate and make build leave the program; without one it is built here.
+[ -x crates/ziria/out/ziria ] || (cd crates/ziria && rt run -- run --ticks 1 ../../examples/xor.zir </dev/null >/dev/null) || exit 1
 exec python3 tests/examples.py
