@@ -1,13 +1,13 @@
 -- What is written where a run ends or breaks off.
 use Rattle.std.specs.Prelude.{ℕ, ◌≡◌, refl, Bool, true, false, List, length, Option, Some, Result, Ok, Err, IfOk}
 use Rattle.std.proofs.Common.{ap, ◌∙◌, sym, subst}
-use Rattle.zir_tree.specs.declared.value.Val.{Val}
-use Rattle.zir_tree.specs.declared.ends.End.{End}
-use Rattle.zir_tree.specs.declared.ends.End.TheVariants.{Value}
-use Rattle.zir_tree.specs.declared.tree.Comp.{Comp}
-use Rattle.zir_meaning.specs.Trace.{Out, Trace}
-use Rattle.zir_meaning.specs.Composition.{values}
-use Rattle.zir_meaning.specs.Samples.{spell, spell_bits}
+use Rattle.zir_bit_tree.specs.declared.value.Val.{Val}
+use Rattle.zir_bit_tree.specs.declared.ends.End.{End}
+use Rattle.zir_bit_tree.specs.declared.ends.End.TheVariants.{Value}
+use Rattle.zir_bit_tree.specs.declared.tree.Comp.{Comp}
+use Rattle.zir_bit_meaning.specs.Trace.{Out, Trace}
+use Rattle.zir_bit_meaning.specs.Composition.{values}
+use Rattle.zir_bit_meaning.specs.Samples.{spell, spell_bits}
 use Rattle.zir_outside.specs.Sinks.{Grew, GrewPart}
 use Rattle.zir_steps.specs.declared.answer.Answer.{Answer}
 use Rattle.zir_steps.specs.declared.answer.Answer.TheVariants.{Yield, Skip, Done, Need, Stopped}

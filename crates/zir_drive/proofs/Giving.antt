@@ -3,13 +3,13 @@ use Rattle.std.specs.Prelude.{ℕ, ◌<◌, ◌≡◌, refl, Bool, true, false, 
 use Rattle.std.proofs.Common.{ap, ◌∙◌, sym, subst, arith, append_assoc}
 use Rattle.std.proofs.lemmas.List.{append-nil}
 use Rattle.std.proofs.lemmas.List.Elements.{All-append}
-use Rattle.zir_meaning.specs.Trace.{Out}
-use Rattle.zir_meaning.specs.Evaluation.{is_one}
-use Rattle.zir_meaning.specs.Composition.{values}
-use Rattle.zir_meaning.specs.Samples.{bits_of, spell, spell_bits}
+use Rattle.zir_bit_meaning.specs.Trace.{Out}
+use Rattle.zir_bit_meaning.specs.Evaluation.{is_one}
+use Rattle.zir_bit_meaning.specs.Composition.{values}
+use Rattle.zir_bit_meaning.specs.Samples.{bits_of, spell, spell_bits}
 use Rattle.zir_outside.specs.Sinks.{Grew, GrewPart}
-use Rattle.zir_samples.specs.Writing.{Puts}
-use Rattle.zir_samples.proofs.Spelling.{bits-append, spell-bits_of, spell-front}
+use Rattle.zir_bit_samples.specs.Writing.{Puts}
+use Rattle.zir_bit_samples.proofs.Spelling.{bits-append, spell-bits_of, spell-front}
 use Rattle.zir_drive.specs.Driving.{ones, Gave}
 
 -- a sink grew by two pieces, one after the other

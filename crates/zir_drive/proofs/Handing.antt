@@ -1,13 +1,13 @@
 -- Bits of an input as elements that are handed in.
 use Rattle.std.specs.Prelude.{ℕ, ℤ, ◌+◌, ◌≡◌, refl, Bool, true, false, List, [], ◌∷◌, ◌++◌, length}
 use Rattle.std.proofs.Common.{ap, ◌∙◌, sym, subst, arith}
-use Rattle.zir_tree.specs.declared.value.Val.{Val}
-use Rattle.zir_tree.specs.declared.value.Val.TheVariants.{Unit as UnitVal, Bit as BitVal}
+use Rattle.zir_bit_tree.specs.declared.value.Val.{Val}
+use Rattle.zir_bit_tree.specs.declared.value.Val.TheVariants.{Unit as UnitVal, Bit as BitVal}
 use Rattle.zir_tree.specs.declared.ends.Stamp.{Stamp}
-use Rattle.zir_tree.specs.declared.tree.Comp.{Comp}
-use Rattle.zir_meaning.specs.Trace.{Out}
-use Rattle.zir_meaning.specs.Evaluation.{is_one}
-use Rattle.zir_meaning.specs.Received.{from_input}
+use Rattle.zir_bit_tree.specs.declared.tree.Comp.{Comp}
+use Rattle.zir_bit_meaning.specs.Trace.{Out}
+use Rattle.zir_bit_meaning.specs.Evaluation.{is_one}
+use Rattle.zir_bit_meaning.specs.Received.{from_input}
 use Rattle.zir_chunk.specs.Contents.{Contents, blank}
 use Rattle.zir_steps.specs.Elements.{IsAt, element_of, val_of, received_as}
 use Rattle.zir_steps.specs.History.{History, RisesFrom, Rises, receive}

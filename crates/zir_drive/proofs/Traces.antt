@@ -2,19 +2,19 @@
 use Rattle.std.specs.Prelude.{ℕ, ◌+◌, ◌≤◌, ◌≡◌, refl, Bool, List, [], ◌∷◌, ◌++◌, map, length}
 use Rattle.std.proofs.Common.{ap, ◌∙◌, sym, subst, arith, append_assoc, length-append}
 use Rattle.std.proofs.lemmas.List.{append-nil}
-use Rattle.zir_tree.specs.declared.value.Val.{Val}
-use Rattle.zir_tree.specs.declared.value.Val.TheVariants.{Bit as BitVal}
-use Rattle.zir_tree.specs.declared.ends.End.{End}
-use Rattle.zir_tree.specs.declared.ends.End.TheVariants.{Value, Starved, Trap as Trapped, Spent}
-use Rattle.zir_tree.specs.declared.tree.Comp.{Comp}
-use Rattle.zir_meaning.specs.Trace.{Out, Trace}
-use Rattle.zir_meaning.specs.Component.{tr}
-use Rattle.zir_meaning.specs.Run.{start}
-use Rattle.zir_meaning.specs.Samples.{bits_of, numbered, element_values}
-use Rattle.zir_laws.specs.Prefixes.{Extends}
-use Rattle.zir_laws.proofs.Cost.{costs}
-use Rattle.zir_laws.proofs.Inputs.{from_input-trace}
-use Rattle.zir_laws.proofs.Prefix.{prefixes}
+use Rattle.zir_bit_tree.specs.declared.value.Val.{Val}
+use Rattle.zir_bit_tree.specs.declared.value.Val.TheVariants.{Bit as BitVal}
+use Rattle.zir_bit_tree.specs.declared.ends.End.{End}
+use Rattle.zir_bit_tree.specs.declared.ends.End.TheVariants.{Value, Starved, Trap as Trapped, Spent}
+use Rattle.zir_bit_tree.specs.declared.tree.Comp.{Comp}
+use Rattle.zir_bit_meaning.specs.Trace.{Out, Trace}
+use Rattle.zir_bit_meaning.specs.Component.{tr}
+use Rattle.zir_bit_meaning.specs.Run.{start}
+use Rattle.zir_bit_meaning.specs.Samples.{bits_of, numbered, element_values}
+use Rattle.zir_bit_laws.specs.Prefixes.{Extends}
+use Rattle.zir_bit_laws.proofs.Cost.{costs}
+use Rattle.zir_bit_laws.proofs.Inputs.{from_input-trace}
+use Rattle.zir_bit_laws.proofs.Prefix.{prefixes}
 use Rattle.zir_steps.specs.History.{IsFront, trace_of as trace_over}
 use Rattle.zir_drive.specs.Runs.{history, trace_of}
 use Rattle.zir_drive.specs.Driving.{inputs, IsLast}

@@ -2,13 +2,13 @@
 use Rattle.std.specs.Prelude.{ℕ, ◌+◌, ◌-◌, ◌^◌, ◌<◌, ◌≤◌, ◌≡◌, ◌⊎◌, refl, Bool, List, [], ◌∷◌, ◌++◌, map, length, Option, Some, None, Result, Ok, Err, IfOk, IfSome, OnOk}
 use Rattle.std.proofs.Common.{ap, ◌∙◌, sym, subst, arith, append_assoc, length-append, inl, inr}
 use Rattle.std.proofs.lemmas.List.{append-nil}
-use Rattle.zir_tree.specs.declared.value.Val.{Val}
-use Rattle.zir_tree.specs.declared.value.Val.TheVariants.{Bit as BitVal}
-use Rattle.zir_tree.specs.declared.ends.End.{End}
-use Rattle.zir_tree.specs.declared.ends.End.TheVariants.{Value, Starved, Trap as Trapped, Spent}
-use Rattle.zir_tree.specs.declared.tree.Comp.{Comp}
-use Rattle.zir_meaning.specs.Trace.{Out}
-use Rattle.zir_samples.specs.Reading.{KeptBits, GivesBit}
+use Rattle.zir_bit_tree.specs.declared.value.Val.{Val}
+use Rattle.zir_bit_tree.specs.declared.value.Val.TheVariants.{Bit as BitVal}
+use Rattle.zir_bit_tree.specs.declared.ends.End.{End}
+use Rattle.zir_bit_tree.specs.declared.ends.End.TheVariants.{Value, Starved, Trap as Trapped, Spent}
+use Rattle.zir_bit_tree.specs.declared.tree.Comp.{Comp}
+use Rattle.zir_bit_meaning.specs.Trace.{Out}
+use Rattle.zir_bit_samples.specs.Reading.{KeptBits, GivesBit}
 use Rattle.zir_steps.specs.declared.answer.Answer.{Answer}
 use Rattle.zir_steps.specs.declared.answer.Answer.TheVariants.{Yield, Skip, Done, Need, Stopped}
 use Rattle.zir_steps.specs.History.{History, IsFront, Rises, trace_of as trace_over}

@@ -1,18 +1,18 @@
 -- How far a driver has come: what its worker stands for, what was read, and what was written.
 use Rattle.std.specs.Prelude.{ℕ, ◌+◌, ◌-◌, ◌*◌, ◌^◌, ◌≤◌, ◌<◌, ◌≡◌, ⊤, Bool, true, false, List, [], ◌∷◌, ◌++◌, map, length, All, Option, Some, None, Result, Ok, Err}
-use Rattle.zir_tree.specs.declared.value.Val.{Val}
-use Rattle.zir_tree.specs.declared.value.Val.TheVariants.{Bit as BitVal}
-use Rattle.zir_tree.specs.declared.ends.End.{End}
-use Rattle.zir_tree.specs.declared.ends.End.TheVariants.{Value, Starved, Trap as Trapped, Spent}
-use Rattle.zir_tree.specs.declared.tree.Comp.{Comp}
-use Rattle.zir_meaning.specs.Trace.{Out, Trace}
-use Rattle.zir_meaning.specs.Evaluation.{is_one}
-use Rattle.zir_meaning.specs.Composition.{values}
-use Rattle.zir_meaning.specs.Samples.{bits_of, spell_bits}
+use Rattle.zir_bit_tree.specs.declared.value.Val.{Val}
+use Rattle.zir_bit_tree.specs.declared.value.Val.TheVariants.{Bit as BitVal}
+use Rattle.zir_bit_tree.specs.declared.ends.End.{End}
+use Rattle.zir_bit_tree.specs.declared.ends.End.TheVariants.{Value, Starved, Trap as Trapped, Spent}
+use Rattle.zir_bit_tree.specs.declared.tree.Comp.{Comp}
+use Rattle.zir_bit_meaning.specs.Trace.{Out, Trace}
+use Rattle.zir_bit_meaning.specs.Evaluation.{is_one}
+use Rattle.zir_bit_meaning.specs.Composition.{values}
+use Rattle.zir_bit_meaning.specs.Samples.{bits_of, spell_bits}
 use Rattle.zir_outside.specs.declared.Failed.{Failed}
 use Rattle.zir_outside.specs.Sinks.{Grew, GrewPart}
-use Rattle.zir_samples.specs.Reading.{KeptBits, no_bits, bits_to_come}
-use Rattle.zir_samples.specs.Writing.{Puts}
+use Rattle.zir_bit_samples.specs.Reading.{KeptBits, no_bits, bits_to_come}
+use Rattle.zir_bit_samples.specs.Writing.{Puts}
 use Rattle.zir_steps.specs.declared.answer.Answer.{Answer}
 use Rattle.zir_steps.specs.declared.answer.Answer.TheVariants.{Yield, Skip, Done, Need, Stopped}
 use Rattle.zir_steps.specs.History.{History, IsFront, Rises, trace_of as trace_over}

@@ -1,15 +1,15 @@
 -- What a run of a worker has come to, in the terms of its component's trace.
 use Rattle.std.specs.Prelude.{ℕ, ◌^◌, ◌≤◌, ◌≡◌, ⊤, true, List, [], length}
-use Rattle.zir_tree.specs.declared.value.Val.{Val}
-use Rattle.zir_tree.specs.declared.ends.End.{End}
-use Rattle.zir_tree.specs.declared.ends.End.TheVariants.{Value, Starved, Trap as Trapped, Spent}
-use Rattle.zir_tree.specs.declared.tree.Comp.{Comp}
-use Rattle.zir_meaning.specs.Trace.{Out, Trace}
-use Rattle.zir_meaning.specs.Composition.{values}
-use Rattle.zir_meaning.specs.Component.{tr}
-use Rattle.zir_meaning.specs.Received.{from_input}
-use Rattle.zir_meaning.specs.Run.{start}
-use Rattle.zir_meaning.specs.Samples.{spell, elements, element_values}
+use Rattle.zir_bit_tree.specs.declared.value.Val.{Val}
+use Rattle.zir_bit_tree.specs.declared.ends.End.{End}
+use Rattle.zir_bit_tree.specs.declared.ends.End.TheVariants.{Value, Starved, Trap as Trapped, Spent}
+use Rattle.zir_bit_tree.specs.declared.tree.Comp.{Comp}
+use Rattle.zir_bit_meaning.specs.Trace.{Out, Trace}
+use Rattle.zir_bit_meaning.specs.Composition.{values}
+use Rattle.zir_bit_meaning.specs.Component.{tr}
+use Rattle.zir_bit_meaning.specs.Received.{from_input}
+use Rattle.zir_bit_meaning.specs.Run.{start}
+use Rattle.zir_bit_meaning.specs.Samples.{spell, elements, element_values}
 use Rattle.zir_outside.specs.Sinks.{Grew, GrewPart}
 use Rattle.zir_steps.specs.History.{History, trace_of as trace_over}
 use Rattle.zir_drive.specs.declared.Ended.{Ended}

@@ -1,10 +1,10 @@
 //! What drives a worker: an element goes in where the worker needs one, and an output goes out where one waits.
 
 ghost use Rattle.std.specs.Prelude.{ℕ, List, Option, ◌+◌, ◌^◌, ◌≤◌, ◌≡◌, ◌⊎◌, [], true, false, Some, None, IfOk, OnOk, OnErr, IfSome, IsErrOf};
-ghost use Rattle.zir_tree.specs.declared.tree.Comp.{Comp};
-ghost use Rattle.zir_tree.specs.declared.value.Val.TheVariants.{Bit as BitVal};
-ghost use Rattle.zir_meaning.specs.Evaluation.{is_one as is_one_of};
-ghost use Rattle.zir_meaning.specs.Trace.{Out};
+ghost use Rattle.zir_bit_tree.specs.declared.tree.Comp.{Comp};
+ghost use Rattle.zir_bit_tree.specs.declared.value.Val.TheVariants.{Bit as BitVal};
+ghost use Rattle.zir_bit_meaning.specs.Evaluation.{is_one as is_one_of};
+ghost use Rattle.zir_bit_meaning.specs.Trace.{Out};
 ghost use Rattle.zir_outside.specs.Causes.{HasCause, Rose};
 ghost use Rattle.zir_steps.specs.declared.answer.Answer.TheVariants.{Yield, Need, Done};
 ghost use Rattle.zir_steps.specs.Elements.{element_of, val_of};
@@ -15,9 +15,9 @@ ghost use Rattle.zir_drive.specs.Driving.{Broke, Fed, Fits, Goes, Handed, IsFres
 
 use crate::{DriveError, Ended, Outcome};
 use std::alloc::{AllocError, Global};
+use zir_bit_samples::{BitReader, BitWriter};
 use zir_chunk::Chunk;
 use zir_outside::{Failed, Sink, Source};
-use zir_samples::{BitReader, BitWriter};
 use zir_steps::answer::Answer;
 use zir_steps::worker::Worker;
 use zir_tree::ends::{EndMark, Stamp};

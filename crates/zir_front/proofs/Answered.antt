@@ -1,7 +1,7 @@
 -- What is answered for a text whose tokens are known.
 use Rattle.std.proofs.Common.{◌≡◌, ℕ, ◌≤◌, List, length, Result, Ok, Err, refl, sym, ap, ◌∙◌}
 use Rattle.std.specs.Prelude.{IfOk, IsErrOf, MatchResult}
-use Rattle.zir_tree.specs.declared.tree.Prog.{Prog}
+use Rattle.zir_bit_tree.specs.declared.tree.Prog.{Prog}
 use Rattle.zir_lex.specs.declared.token.Token.{Token}
 use Rattle.zir_lex.specs.Tokens.{Lexes}
 use Rattle.zir_lex.specs.declared.lexer.LexError.{LexError}

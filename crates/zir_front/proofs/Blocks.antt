@@ -1,10 +1,10 @@
 -- Blocks: what is read is in the grammar, and what is in the grammar is read.
 use Rattle.std.proofs.Common.{◌≡◌, ℕ, zero, suc, ◌+◌, ◌≤◌, ◌<◌, Bool, true, false, List, [], ◌∷◌, ◌++◌, length, Some, None, inl, inr, refl, sym, ap, subst, ◌∙◌, append_assoc, arith}
 use Rattle.zir_tree.specs.declared.place.Place.{Place}
-use Rattle.zir_tree.specs.declared.tree.Ident.{Ident}
-use Rattle.zir_tree.specs.declared.tree.Expr.{Unit as UnitValue}
-use Rattle.zir_tree.specs.declared.tree.Comp.{Comp, Take, Emit, Return, Block}
-use Rattle.zir_tree.specs.declared.tree.Member.{Member}
+use Rattle.zir_tree.specs.declared.ident.Ident.{Ident}
+use Rattle.zir_bit_tree.specs.declared.tree.Expr.{Unit as UnitValue}
+use Rattle.zir_bit_tree.specs.declared.tree.Comp.{Comp, Take, Emit, Return, Block}
+use Rattle.zir_bit_tree.specs.declared.tree.Member.{Member}
 use Rattle.zir_lex.specs.declared.token.Token.{Token}
 use Rattle.zir_lex.specs.declared.token.Lexeme.TheVariants as lexeme
 use Rattle.zir_lex.specs.declared.token.Keyword.TheVariants as keyword

@@ -1,8 +1,8 @@
 -- Expressions: what is read is in the grammar, and what is in the grammar is read.
 use Rattle.std.proofs.Common.{◌≡◌, ℕ, zero, suc, ◌+◌, ◌-◌, ◌≤◌, ◌<◌, List, [], ◌∷◌, length, Option, Some, None, inl, inr, refl, sym, ap, subst, ◌∙◌, arith}
 use Rattle.zir_tree.specs.declared.place.Place.{Place}
-use Rattle.zir_tree.specs.declared.tree.Ident.{Ident}
-use Rattle.zir_tree.specs.declared.tree.Expr.{Expr, Bit as BitValue, Variable, Xor}
+use Rattle.zir_tree.specs.declared.ident.Ident.{Ident}
+use Rattle.zir_bit_tree.specs.declared.tree.Expr.{Expr, Bit as BitValue, Variable, Xor}
 use Rattle.zir_lex.specs.declared.token.Token.{Token}
 use Rattle.zir_lex.specs.declared.token.Lexeme.{Lexeme}
 use Rattle.zir_lex.specs.declared.token.Lexeme.TheVariants as lexeme

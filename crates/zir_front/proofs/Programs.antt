@@ -4,8 +4,8 @@ use Rattle.std.specs.Prelude.{codes}
 use Rattle.std.specs.Str.{bytes_eq}
 use Rattle.std.proofs.lemmas.Slice.Eq.{bytes_eq-Decides}
 use Rattle.zir_tree.specs.declared.place.Place.{Place}
-use Rattle.zir_tree.specs.declared.tree.Prog.{Prog}
-use Rattle.zir_tree.specs.declared.tree.Ty.TheVariants as ty
+use Rattle.zir_bit_tree.specs.declared.tree.Prog.{Prog}
+use Rattle.zir_bit_tree.specs.declared.tree.Ty.TheVariants as ty
 use Rattle.zir_lex.specs.declared.token.Token.{Token}
 use Rattle.zir_lex.specs.declared.token.Lexeme.{Lexeme}
 use Rattle.zir_lex.specs.declared.token.Lexeme.TheVariants as lexeme

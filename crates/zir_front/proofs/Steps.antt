@@ -1,10 +1,10 @@
 -- One turn of each loop, as reading has it.
 use Rattle.std.proofs.Common.{◌≡◌, ℕ, suc, ◌+◌, ◌-◌, ◌<◌, Bool, List, [], ◌∷◌, ◌++◌, Option, Some, None, refl, sym, ap, ◌∙◌, arith}
 use Rattle.zir_tree.specs.declared.place.Place.{Place}
-use Rattle.zir_tree.specs.declared.tree.Ident.{Ident}
-use Rattle.zir_tree.specs.declared.tree.Expr.{Expr, Xor}
-use Rattle.zir_tree.specs.declared.tree.Comp.{Block}
-use Rattle.zir_tree.specs.declared.tree.Member.{Member}
+use Rattle.zir_tree.specs.declared.ident.Ident.{Ident}
+use Rattle.zir_bit_tree.specs.declared.tree.Expr.{Expr, Xor}
+use Rattle.zir_bit_tree.specs.declared.tree.Comp.{Block}
+use Rattle.zir_bit_tree.specs.declared.tree.Member.{Member}
 use Rattle.zir_lex.specs.declared.token.Token.{Token}
 use Rattle.zir_lex.specs.declared.token.Keyword.TheVariants as keyword
 use Rattle.zir_lex.specs.declared.token.Symbol.TheVariants as symbol

@@ -2,12 +2,12 @@
 use Rattle.std.specs.Prelude.{◌≡◌, ℕ, zero, suc, ◌+◌, ◌⊎◌, Bool, true, false, List, [], ◌∷◌, ◌++◌, Option, Some, None, codes, if◌then◌else◌}
 use Rattle.std.specs.Str.{bytes_eq}
 use Rattle.zir_tree.specs.declared.place.Place.{Place}
-use Rattle.zir_tree.specs.declared.tree.Ident.{Ident}
-use Rattle.zir_tree.specs.declared.tree.Expr.{Expr, Unit as UnitValue, Bit as BitValue, Variable, Xor}
-use Rattle.zir_tree.specs.declared.tree.Comp.{Take, Emit, Return, Block, Repeat, Pipe}
-use Rattle.zir_tree.specs.declared.tree.Member.{Member}
-use Rattle.zir_tree.specs.declared.tree.Prog.{Prog}
-use Rattle.zir_tree.specs.declared.tree.Ty.TheVariants as ty
+use Rattle.zir_tree.specs.declared.ident.Ident.{Ident}
+use Rattle.zir_bit_tree.specs.declared.tree.Expr.{Expr, Unit as UnitValue, Bit as BitValue, Variable, Xor}
+use Rattle.zir_bit_tree.specs.declared.tree.Comp.{Take, Emit, Return, Block, Repeat, Pipe}
+use Rattle.zir_bit_tree.specs.declared.tree.Member.{Member}
+use Rattle.zir_bit_tree.specs.declared.tree.Prog.{Prog}
+use Rattle.zir_bit_tree.specs.declared.tree.Ty.TheVariants as ty
 use Rattle.zir_lex.specs.declared.token.Token.{Token}
 use Rattle.zir_lex.specs.declared.token.Lexeme.{Lexeme}
 use Rattle.zir_lex.specs.declared.token.Lexeme.TheVariants as lexeme

@@ -1,6 +1,6 @@
 -- Which text is which program.
 use Rattle.std.specs.Prelude.{◌≡◌, ℕ, ◌≤◌, List, ◌++◌, length, codes}
-use Rattle.zir_tree.specs.declared.tree.Prog.{Prog}
+use Rattle.zir_bit_tree.specs.declared.tree.Prog.{Prog}
 use Rattle.zir_lex.specs.declared.token.Token.{Token}
 use Rattle.zir_lex.specs.Tokens.{Lexes}
 use Rattle.zir_front.specs.Grammar.{IsProg}

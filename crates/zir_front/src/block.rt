@@ -10,10 +10,11 @@ use crate::part::{Braced, Turn};
 use crate::word::{expect_keyword, expect_name, expect_sign, keyword, sign};
 use sqlite_items::Items;
 use std::alloc::{AllocError, Global};
+use zir_bit_tree::tree::{Comp, Expr, Member};
 use zir_lex::token::{Keyword, Symbol, Token};
+use zir_tree::ident::Ident;
 use zir_tree::name::Name;
 use zir_tree::place::Place;
-use zir_tree::tree::{Comp, Expr, Ident, Member};
 
 /// What follows `emit`.
 #[tactic(auto, unfolding(crate::specs::Reading::emit_at))]

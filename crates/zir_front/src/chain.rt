@@ -10,9 +10,9 @@ use crate::part::{Kind, Part};
 use crate::word::{expect_sign, keyword, sign};
 use sqlite_items::Boxed;
 use std::alloc::Global;
+use zir_bit_tree::tree::Comp;
 use zir_lex::token::{Keyword, Symbol, Token};
 use zir_tree::place::Place;
-use zir_tree::tree::Comp;
 
 /// The most components that `>>>` joins without parentheses.
 pub const MOST_ATOMS: usize = 8;

@@ -8,9 +8,10 @@ use crate::error::FrontError;
 use crate::word::sign;
 use sqlite_items::Boxed;
 use std::alloc::Global;
+use zir_bit_tree::tree::Expr;
 use zir_lex::token::{Lexeme, Symbol, Token};
+use zir_tree::ident::Ident;
 use zir_tree::name::Name;
-use zir_tree::tree::{Expr, Ident};
 
 /// The most operands of `^` in one expression.
 pub const MOST_OPERANDS: usize = 8;

@@ -1,6 +1,6 @@
 // What is read of a program: components with what the forms around them ask of them.
 
-use zir_tree::tree::{Comp, Member};
+use zir_bit_tree::tree::{Comp, Member};
 
 /// A computer ends with a value, and a transformer never ends by itself.
 #[derive(Clone, Copy, Debug, PartialEq, Eq)]

@@ -1,7 +1,7 @@
 // Programs: the component between what it reads and what it writes.
 
 ghost use Rattle.std.specs.Prelude.{◌≡◌, ◌^◌, ◌<◌, ◌↔◌, ℕ, List, length, IfOk, IsErrOf, IsTrue, MatchResult};
-ghost use Rattle.zir_tree.specs.declared.tree.Prog.{Prog};
+ghost use Rattle.zir_bit_tree.specs.declared.tree.Prog.{Prog};
 ghost use Rattle.zir_front.specs.Program.{HasDashes, IsProgram};
 ghost use Rattle.zir_front.specs.Reading.{Gives, bits_at, head_at, program_at};
 
@@ -9,9 +9,9 @@ use crate::chain::{MOST_PARENTHESES, chain};
 use crate::error::FrontError;
 use crate::word::{expect_keyword, expect_name, expect_sign};
 use std::alloc::Global;
+use zir_bit_tree::tree::{Prog, Ty};
 use zir_lex::lexer::{LONGEST_TEXT, lex, one_reading};
 use zir_lex::token::{Keyword, Symbol, Token};
-use zir_tree::tree::{Prog, Ty};
 
 /// A stream of bits: `read [bit]` or `write [bit]`.
 #[tactic(auto, unfolding(crate::specs::Reading::bits_at))]

@@ -1,14 +1,14 @@
 -- What the answer of a side is for the whole composition.
 use Rattle.std.specs.Prelude.{ℕ, ◌≡◌, refl, ◌+◌, ◌-◌, ◌≤◌, ◌<◌, [], None, true}
 use Rattle.std.proofs.Common.{ap, sym, subst, ◌∙◌, arith}
-use Rattle.zir_tree.specs.declared.value.Val.{Val}
-use Rattle.zir_tree.specs.declared.ends.End.TheVariants.{Value}
-use Rattle.zir_meaning.specs.Store.{merge}
-use Rattle.zir_meaning.specs.Trace.{State, Point, point}
-use Rattle.zir_meaning.specs.Composition.{limit, over, at_point}
-use Rattle.zir_laws.specs.Process.{Proc, Gives, Ends, Needs, spent_proc, piped}
-use Rattle.zir_laws.proofs.Equations.{merge-none}
-use Rattle.zir_laws.proofs.Limits.{piped-limit, holds-within}
+use Rattle.zir_bit_tree.specs.declared.value.Val.{Val}
+use Rattle.zir_bit_tree.specs.declared.ends.End.TheVariants.{Value}
+use Rattle.zir_bit_meaning.specs.Store.{merge}
+use Rattle.zir_bit_meaning.specs.Trace.{State, Point, point}
+use Rattle.zir_bit_meaning.specs.Composition.{limit, over, at_point}
+use Rattle.zir_bit_laws.specs.Process.{Proc, Gives, Ends, Needs, spent_proc, piped}
+use Rattle.zir_bit_laws.proofs.Equations.{merge-none}
+use Rattle.zir_bit_laws.proofs.Limits.{piped-limit, holds-within}
 use Rattle.zir_steps.specs.declared.answer.Answer.TheVariants.{Yield, Skip, Done, Stopped}
 use Rattle.zir_machine.specs.declared.progress.Focus.{Focus}
 use Rattle.zir_machine.specs.declared.progress.Focus.TheVariants.{Begin, Ended, Giving, Given, Spent}

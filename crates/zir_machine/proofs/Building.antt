@@ -3,8 +3,8 @@ use Rattle.std.specs.Prelude.{ℕ, zero, suc, ◌+◌, ◌<◌, ◌≡◌, refl,
 use Rattle.std.proofs.Common.{ap, sym, ◌∙◌, arith}
 use Rattle.std.specs.declared.vec.Vec.{Vec}
 use Rattle.std.specs.declared.alloc.Global.{Global}
-use Rattle.zir_tree.specs.declared.tree.Comp.{Comp, Block as BlockComp}
-use Rattle.zir_tree.specs.declared.tree.Member.{Member}
+use Rattle.zir_bit_tree.specs.declared.tree.Comp.{Comp, Block as BlockComp}
+use Rattle.zir_bit_tree.specs.declared.tree.Member.{Member}
 use Rattle.zir_machine.specs.declared.node.Node.{Block}
 use Rattle.zir_machine.specs.declared.node.Part.{Part}
 use Rattle.zir_machine.specs.declared.progress.Span.{Span}

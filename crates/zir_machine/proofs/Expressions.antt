@@ -1,12 +1,12 @@
 -- Values of expressions.
 use Rattle.std.specs.Prelude.{refl}
 use Rattle.std.proofs.Common.{◌∙◌}
-use Rattle.zir_tree.specs.declared.value.Val.{Val}
+use Rattle.zir_bit_tree.specs.declared.value.Val.{Val}
 use Rattle.zir_tree.specs.declared.place.Place.{Place}
-use Rattle.zir_tree.specs.declared.tree.Expr.{Expr, Xor}
-use Rattle.zir_meaning.specs.Store.{Store}
-use Rattle.zir_meaning.specs.Evaluation.{xor_of}
-use Rattle.zir_laws.proofs.Equations.{ev-Xor}
+use Rattle.zir_bit_tree.specs.declared.tree.Expr.{Expr, Xor}
+use Rattle.zir_bit_meaning.specs.Store.{Store}
+use Rattle.zir_bit_meaning.specs.Evaluation.{xor_of}
+use Rattle.zir_bit_laws.proofs.Equations.{ev-Xor}
 use Rattle.zir_machine.specs.Values.{IsValue}
 
 -- the value of an exclusive or is that of its sides

@@ -2,14 +2,14 @@
 use Rattle.std.specs.Prelude.{ℕ, ◌+◌, ◌≤◌, ◌<◌, ◌≡◌, refl, Bool, true, false, nat_le, List, [], ◌∷◌, ◌++◌, Option, Some, None}
 use Rattle.std.proofs.Common.{ap, sym, ◌∙◌, arith}
 use Rattle.std.proofs.lemmas.Bool.{lt-leb, le-leb}
-use Rattle.zir_tree.specs.declared.value.Val.{Val}
+use Rattle.zir_bit_tree.specs.declared.value.Val.{Val}
 use Rattle.zir_tree.specs.declared.ends.Stamp.{Stamp}
-use Rattle.zir_tree.specs.declared.ends.End.TheVariants.{Value, Starved, Trap as Trapped, Spent}
-use Rattle.zir_meaning.specs.Trace.{State, Point, point, Out, Trace, spent, ends, gives}
-use Rattle.zir_meaning.specs.Composition.{limit, over, at_point, within}
-use Rattle.zir_laws.specs.Process.{Proc, Gives, Ends, Needs, spent_proc}
-use Rattle.zir_laws.specs.Feed.{feed}
-use Rattle.zir_laws.specs.Offers.{Fed}
+use Rattle.zir_bit_tree.specs.declared.ends.End.TheVariants.{Value, Starved, Trap as Trapped, Spent}
+use Rattle.zir_bit_meaning.specs.Trace.{State, Point, point, Out, Trace, spent, ends, gives}
+use Rattle.zir_bit_meaning.specs.Composition.{limit, over, at_point, within}
+use Rattle.zir_bit_laws.specs.Process.{Proc, Gives, Ends, Needs, spent_proc}
+use Rattle.zir_bit_laws.specs.Feed.{feed}
+use Rattle.zir_bit_laws.specs.Offers.{Fed}
 use Rattle.zir_steps.specs.History.{RisesFrom}
 use Rattle.zir_machine.specs.declared.machine.Element.{Element}
 use Rattle.zir_machine.specs.Late.{Late}

@@ -1,10 +1,10 @@
 -- Steps of components without parts.
 use Rattle.std.specs.Prelude.{◌≡◌, refl, Option, None}
 use Rattle.std.proofs.Common.{subst, sym}
-use Rattle.zir_tree.specs.declared.value.Val.{Val}
+use Rattle.zir_bit_tree.specs.declared.value.Val.{Val}
 use Rattle.zir_tree.specs.declared.place.Place.{Place}
-use Rattle.zir_tree.specs.declared.tree.Comp.{Take as TakeComp}
-use Rattle.zir_meaning.specs.Trace.{State}
+use Rattle.zir_bit_tree.specs.declared.tree.Comp.{Take as TakeComp}
+use Rattle.zir_bit_meaning.specs.Trace.{State}
 use Rattle.zir_steps.specs.declared.answer.Answer.TheVariants.{Need}
 use Rattle.zir_machine.specs.declared.progress.Focus.{Focus}
 use Rattle.zir_machine.specs.declared.progress.Focus.TheVariants.{Begin}

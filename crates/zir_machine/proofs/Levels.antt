@@ -4,16 +4,16 @@ use Rattle.std.proofs.Common.{ap, sym, ◌∙◌, arith, rules}
 use Rattle.std.specs.declared.vec.Vec.{Vec}
 use Rattle.std.specs.declared.boxed.Box.{Box}
 use Rattle.std.specs.declared.alloc.Global.{Global}
-use Rattle.zir_tree.specs.declared.value.Val.{Val}
-use Rattle.zir_tree.specs.declared.value.Val.TheVariants.{Unit as UnitVal}
-use Rattle.zir_tree.specs.declared.ends.End.TheVariants.{Value}
-use Rattle.zir_tree.specs.declared.tree.Ident.{Ident}
-use Rattle.zir_tree.specs.declared.tree.Comp.{Comp, Block as BlockComp}
-use Rattle.zir_meaning.specs.Trace.{State}
-use Rattle.zir_meaning.specs.Component.{bind, leave}
-use Rattle.zir_laws.specs.Process.{Proc, Ends, NextProc, then_proc, turns_proc, proc, list_proc}
-use Rattle.zir_laws.proofs.Equations.{block-list, repeat-turns, pipe-piped}
-use Rattle.zir_laws.proofs.Fuel.{loop-next}
+use Rattle.zir_bit_tree.specs.declared.value.Val.{Val}
+use Rattle.zir_bit_tree.specs.declared.value.Val.TheVariants.{Unit as UnitVal}
+use Rattle.zir_bit_tree.specs.declared.ends.End.TheVariants.{Value}
+use Rattle.zir_tree.specs.declared.ident.Ident.{Ident}
+use Rattle.zir_bit_tree.specs.declared.tree.Comp.{Comp, Block as BlockComp}
+use Rattle.zir_bit_meaning.specs.Trace.{State}
+use Rattle.zir_bit_meaning.specs.Component.{bind, leave}
+use Rattle.zir_bit_laws.specs.Process.{Proc, Ends, NextProc, then_proc, turns_proc, proc, list_proc}
+use Rattle.zir_bit_laws.proofs.Equations.{block-list, repeat-turns, pipe-piped}
+use Rattle.zir_bit_laws.proofs.Fuel.{loop-next}
 use Rattle.zir_machine.specs.declared.progress.Focus.{Focus}
 use Rattle.zir_machine.specs.declared.progress.Focus.TheVariants.{Ended}
 use Rattle.zir_machine.specs.declared.node.Node.{Node, Block, Repeat, Pipe, the_lemmas}

@@ -1,14 +1,14 @@
 -- Two sides of a composition.
 use Rattle.std.specs.Prelude.{◌≡◌, refl, ◌+◌, List, []}
 use Rattle.std.proofs.Common.{ap, sym, ◌∙◌}
-use Rattle.zir_tree.specs.declared.value.Slot.{Slot}
-use Rattle.zir_meaning.specs.Store.{merge}
-use Rattle.zir_meaning.specs.Trace.{State, Point, point}
-use Rattle.zir_meaning.specs.Composition.{limit, over, at_point, fresh}
-use Rattle.zir_meaning.specs.Component.{assigns}
-use Rattle.zir_laws.specs.Process.{Proc, Gives, Ends, Needs, end_proc, inside, piped, proc}
-use Rattle.zir_laws.proofs.Equations.{merge-none, assigns-none}
-use Rattle.zir_laws.proofs.Limits.{piped-limit}
+use Rattle.zir_bit_tree.specs.declared.value.Slot.{Slot}
+use Rattle.zir_bit_meaning.specs.Store.{merge}
+use Rattle.zir_bit_meaning.specs.Trace.{State, Point, point}
+use Rattle.zir_bit_meaning.specs.Composition.{limit, over, at_point, fresh}
+use Rattle.zir_bit_meaning.specs.Component.{assigns}
+use Rattle.zir_bit_laws.specs.Process.{Proc, Gives, Ends, Needs, end_proc, inside, piped, proc}
+use Rattle.zir_bit_laws.proofs.Equations.{merge-none, assigns-none}
+use Rattle.zir_bit_laws.proofs.Limits.{piped-limit}
 use Rattle.zir_machine.specs.declared.progress.Progress.{Progress}
 use Rattle.zir_machine.specs.Standing.{state_of}
 use Rattle.zir_machine.specs.Understood.{Meant}

@@ -3,16 +3,16 @@ use Rattle.std.specs.Prelude.{ℕ, ◌+◌, ◌^◌, ◌≤◌, ◌<◌, ◌≡�
 use Rattle.std.proofs.Common.{ap, sym, subst, ◌∙◌, arith}
 use Rattle.std.specs.declared.alloc.AllocError.{AllocError}
 use Rattle.std.proofs.lemmas.List.{append-nil, append_assoc}
-use Rattle.zir_tree.specs.declared.value.Val.{Val}
-use Rattle.zir_tree.specs.declared.value.Slot.{Slot}
+use Rattle.zir_bit_tree.specs.declared.value.Val.{Val}
+use Rattle.zir_bit_tree.specs.declared.value.Slot.{Slot}
 use Rattle.zir_tree.specs.declared.ends.Stamp.{Stamp}
 use Rattle.zir_tree.specs.declared.ends.EndMark.{EndMark}
 use Rattle.zir_tree.specs.declared.ends.EndMark.TheVariants.{Value as ValueMark, Starved as StarvedMark, Spent as SpentMark}
-use Rattle.zir_tree.specs.declared.ends.End.TheVariants.{Value, Starved}
-use Rattle.zir_meaning.specs.Trace.{State, point, Out, Trace, spent, ends, gives, after}
-use Rattle.zir_meaning.specs.Composition.{limit, over, at_point, fresh}
-use Rattle.zir_laws.specs.Process.{Proc, Needs, proc}
-use Rattle.zir_laws.specs.Feed.{feed}
+use Rattle.zir_bit_tree.specs.declared.ends.End.TheVariants.{Value, Starved}
+use Rattle.zir_bit_meaning.specs.Trace.{State, point, Out, Trace, spent, ends, gives, after}
+use Rattle.zir_bit_meaning.specs.Composition.{limit, over, at_point, fresh}
+use Rattle.zir_bit_laws.specs.Process.{Proc, Needs, proc}
+use Rattle.zir_bit_laws.specs.Feed.{feed}
 use Rattle.zir_chunk.specs.Contents.{AtMost, IsSmall, Contents, cells_of as chunk_cells, stamps_of}
 use Rattle.zir_steps.specs.declared.answer.Answer.{Answer}
 use Rattle.zir_steps.specs.declared.answer.Answer.TheVariants.{Yield, Skip, Done, Need, Stopped}

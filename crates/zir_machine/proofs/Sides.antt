@@ -1,13 +1,13 @@
 -- One side asked, as the whole composition.
 use Rattle.std.specs.Prelude.{ℕ, ◌≡◌, refl, zero, suc, ◌+◌, ◌≤◌, ◌<◌, ◌⊎◌, [], Option, Some, None, Bool, true, false}
 use Rattle.std.proofs.Common.{ap, sym, subst, ◌∙◌, arith, inl, inr}
-use Rattle.zir_tree.specs.declared.value.Val.{Val}
-use Rattle.zir_meaning.specs.Trace.{State, Point, point}
-use Rattle.zir_meaning.specs.Composition.{limit}
-use Rattle.zir_laws.specs.Process.{Proc, Gives, Needs, piped}
-use Rattle.zir_laws.specs.Offers.{Fed}
-use Rattle.zir_laws.proofs.Offers.{fed_left, fed_right}
-use Rattle.zir_laws.proofs.Limits.{piped-limit}
+use Rattle.zir_bit_tree.specs.declared.value.Val.{Val}
+use Rattle.zir_bit_meaning.specs.Trace.{State, Point, point}
+use Rattle.zir_bit_meaning.specs.Composition.{limit}
+use Rattle.zir_bit_laws.specs.Process.{Proc, Gives, Needs, piped}
+use Rattle.zir_bit_laws.specs.Offers.{Fed}
+use Rattle.zir_bit_laws.proofs.Offers.{fed_left, fed_right}
+use Rattle.zir_bit_laws.proofs.Limits.{piped-limit}
 use Rattle.zir_steps.specs.declared.answer.Answer.{Answer}
 use Rattle.zir_steps.specs.declared.answer.Answer.TheVariants.{Need}
 use Rattle.zir_machine.specs.declared.progress.Focus.{Focus}

@@ -5,16 +5,16 @@ use denote.Hole.Carrier.{hidden}
 use Rattle.std.specs.declared.vec.Vec.{Vec}
 use Rattle.std.specs.declared.boxed.Box.{Box}
 use Rattle.std.specs.declared.alloc.Global.{Global}
-use Rattle.zir_tree.specs.declared.value.Val.{Val}
-use Rattle.zir_tree.specs.declared.ends.End.TheVariants.{Value}
+use Rattle.zir_bit_tree.specs.declared.value.Val.{Val}
+use Rattle.zir_bit_tree.specs.declared.ends.End.TheVariants.{Value}
 use Rattle.zir_tree.specs.declared.place.Place.{Place}
-use Rattle.zir_tree.specs.declared.tree.Comp.{Comp, Block as BlockComp, Repeat as RepeatComp, Pipe as PipeComp}
-use Rattle.zir_tree.specs.declared.tree.Comp.TheBlock.{shape-the_row-Member-0, hidden-the_row-Member-0, shape-the_row-Comp-1, hidden-the_row-Comp-1}
-use Rattle.zir_tree.specs.declared.tree.Member.{Member}
-use Rattle.zir_meaning.specs.Trace.{State}
-use Rattle.zir_laws.specs.Process.{Proc, Ends, NextProc, then_proc}
-use Rattle.zir_laws.specs.Offers.{Fed}
-use Rattle.zir_laws.proofs.Offers.{fed_then}
+use Rattle.zir_bit_tree.specs.declared.tree.Comp.{Comp, Block as BlockComp, Repeat as RepeatComp, Pipe as PipeComp}
+use Rattle.zir_bit_tree.specs.declared.tree.Comp.TheBlock.{shape-the_row-Member-0, hidden-the_row-Member-0, shape-the_row-Comp-1, hidden-the_row-Comp-1}
+use Rattle.zir_bit_tree.specs.declared.tree.Member.{Member}
+use Rattle.zir_bit_meaning.specs.Trace.{State}
+use Rattle.zir_bit_laws.specs.Process.{Proc, Ends, NextProc, then_proc}
+use Rattle.zir_bit_laws.specs.Offers.{Fed}
+use Rattle.zir_bit_laws.proofs.Offers.{fed_then}
 use Rattle.zir_steps.specs.declared.answer.Answer.{Answer}
 use Rattle.zir_steps.specs.declared.answer.Answer.TheVariants.{Yield, Skip, Done, Need, Stopped}
 use Rattle.zir_machine.specs.declared.progress.Focus.{Focus}

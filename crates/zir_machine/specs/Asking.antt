@@ -1,9 +1,9 @@
 -- What it is to ask one side of a composition.
 use Rattle.std.specs.Prelude.{ℕ, ◌≡◌, ◌≢◌, ◌+◌, ◌*◌, ◌≤◌, ◌<◌, ◌⊎◌, true, Option, Some, None}
-use Rattle.zir_tree.specs.declared.value.Val.{Val}
-use Rattle.zir_meaning.specs.Trace.{State}
-use Rattle.zir_laws.specs.Process.{Proc}
-use Rattle.zir_laws.specs.Offers.{Fed}
+use Rattle.zir_bit_tree.specs.declared.value.Val.{Val}
+use Rattle.zir_bit_meaning.specs.Trace.{State}
+use Rattle.zir_bit_laws.specs.Process.{Proc}
+use Rattle.zir_bit_laws.specs.Offers.{Fed}
 use Rattle.zir_steps.specs.declared.answer.Answer.{Answer}
 use Rattle.zir_steps.specs.declared.answer.Answer.TheVariants.{Yield, Skip, Need, Stopped}
 use Rattle.zir_machine.specs.declared.progress.Focus.{Focus}

@@ -1,7 +1,7 @@
 -- How large a component is, which bounds the way down to its parts.
 use Rattle.std.specs.Prelude.{ℕ, suc, ◌+◌, List, [], ◌∷◌}
-use Rattle.zir_tree.specs.declared.tree.Comp.{Comp, Take, Emit, Return, Block', Repeat', Pipe', end_of-Comp, more_of-Comp, Row_of-Member, end_of-Member, more_of-Member}
-use Rattle.zir_tree.specs.declared.tree.Member.{Member}
+use Rattle.zir_bit_tree.specs.declared.tree.Comp.{Comp, Take, Emit, Return, Block', Repeat', Pipe', end_of-Comp, more_of-Comp, Row_of-Member, end_of-Member, more_of-Member}
+use Rattle.zir_bit_tree.specs.declared.tree.Member.{Member}
 
 abbrev mutual
   pub height : Comp → ℕ

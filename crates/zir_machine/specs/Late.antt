@@ -1,8 +1,8 @@
 -- Processes whose points all have some ticks.
 use Rattle.std.specs.Prelude.{ℕ, ◌≤◌, Bool, true, false}
-use Rattle.zir_tree.specs.declared.value.Val.{Val}
-use Rattle.zir_tree.specs.declared.ends.End.TheVariants.{Value, Starved, Trap as Trapped, Spent}
-use Rattle.zir_laws.specs.Process.{Proc, Gives, Ends, Needs}
+use Rattle.zir_bit_tree.specs.declared.value.Val.{Val}
+use Rattle.zir_bit_tree.specs.declared.ends.End.TheVariants.{Value, Starved, Trap as Trapped, Spent}
+use Rattle.zir_bit_laws.specs.Process.{Proc, Gives, Ends, Needs}
 
 -- each point has no fewer than t ticks, apart from a spent end
 abbrev pub Late : ℕ → Proc → Type 0

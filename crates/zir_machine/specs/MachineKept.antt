@@ -1,6 +1,6 @@
 -- What holds of a machine at each answer, so that the calls that may come next can be made.
 use Rattle.std.specs.Prelude.{ℕ, ◌+◌, ◌≤◌, ◌≡◌, List, Option, Some, true, false, is_none}
-use Rattle.zir_tree.specs.declared.value.Slot.{Slot}
+use Rattle.zir_bit_tree.specs.declared.value.Slot.{Slot}
 use Rattle.zir_tree.specs.declared.ends.Stamp.{Stamp}
 use Rattle.zir_steps.specs.declared.answer.Answer.{Answer}
 use Rattle.zir_steps.specs.declared.answer.Answer.TheVariants.{Yield}

@@ -2,12 +2,12 @@
 use Rattle.std.specs.Prelude.{◌≤◌, ◌≡◌, []}
 use Rattle.std.proofs.Common.{ap, sym, ◌∙◌, arith}
 use Rattle.std.proofs.lemmas.List.{append-nil}
-use Rattle.zir_meaning.specs.Trace.{after}
-use Rattle.zir_meaning.specs.Composition.{fresh}
-use Rattle.zir_meaning.specs.Trace.{point}
-use Rattle.zir_laws.specs.Process.{proc}
-use Rattle.zir_laws.specs.Feed.{feed}
-use Rattle.zir_laws.proofs.Feed.{feeds}
+use Rattle.zir_bit_meaning.specs.Trace.{after}
+use Rattle.zir_bit_meaning.specs.Composition.{fresh}
+use Rattle.zir_bit_meaning.specs.Trace.{point}
+use Rattle.zir_bit_laws.specs.Process.{proc}
+use Rattle.zir_bit_laws.specs.Feed.{feed}
+use Rattle.zir_bit_laws.proofs.Feed.{feeds}
 use Rattle.zir_steps.specs.History.{History, begun, trace_of, IsFront}
 use Rattle.zir_machine.specs.MachineStands.{Standing, Stands, still, point_of, waiting, own_of}
 

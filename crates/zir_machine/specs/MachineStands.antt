@@ -1,14 +1,14 @@
 -- The history that a machine stands for.
 use Rattle.std.specs.Prelude.{ℕ, ◌+◌, ◌≤◌, ◌≡◌, min, List, [], ◌∷◌, ◌++◌, Option, Some, None}
-use Rattle.zir_tree.specs.declared.value.Val.{Val}
-use Rattle.zir_tree.specs.declared.value.Slot.{Slot}
+use Rattle.zir_bit_tree.specs.declared.value.Val.{Val}
+use Rattle.zir_bit_tree.specs.declared.value.Slot.{Slot}
 use Rattle.zir_tree.specs.declared.ends.Stamp.{Stamp}
-use Rattle.zir_tree.specs.declared.ends.End.TheVariants.{Value}
-use Rattle.zir_tree.specs.declared.tree.Comp.{Comp}
-use Rattle.zir_meaning.specs.Trace.{State, Point, point, Out, spent, after}
-use Rattle.zir_meaning.specs.Composition.{fresh}
-use Rattle.zir_laws.specs.Process.{Proc, Ends, Needs, proc}
-use Rattle.zir_laws.specs.Feed.{feed}
+use Rattle.zir_bit_tree.specs.declared.ends.End.TheVariants.{Value}
+use Rattle.zir_bit_tree.specs.declared.tree.Comp.{Comp}
+use Rattle.zir_bit_meaning.specs.Trace.{State, Point, point, Out, spent, after}
+use Rattle.zir_bit_meaning.specs.Composition.{fresh}
+use Rattle.zir_bit_laws.specs.Process.{Proc, Ends, Needs, proc}
+use Rattle.zir_bit_laws.specs.Feed.{feed}
 use Rattle.zir_chunk.specs.Contents.{AtMost}
 use Rattle.zir_steps.specs.declared.answer.Answer.{Answer}
 use Rattle.zir_steps.specs.declared.answer.Answer.TheVariants.{Yield, Skip, Done, Need, Stopped}

@@ -1,9 +1,9 @@
 -- What a tree of nodes means: the component that it runs, and what that still does.
 use Rattle.std.specs.Prelude.{List, Bool, true, false, refl}
 use Rattle.zir_tree.specs.declared.place.Place.{Place}
-use Rattle.zir_tree.specs.declared.tree.Comp.{Comp, Take as TakeComp, Emit as EmitComp, Return as ReturnComp}
-use Rattle.zir_meaning.specs.Trace.{State}
-use Rattle.zir_laws.specs.Process.{Proc}
+use Rattle.zir_bit_tree.specs.declared.tree.Comp.{Comp, Take as TakeComp, Emit as EmitComp, Return as ReturnComp}
+use Rattle.zir_bit_meaning.specs.Trace.{State}
+use Rattle.zir_bit_laws.specs.Process.{Proc}
 use Rattle.zir_machine.specs.declared.progress.Focus.{Focus}
 use Rattle.zir_machine.specs.declared.node.Node.{Node, fold-Node}
 use Rattle.zir_machine.specs.declared.node.Node.TheOpen.{Node-F, Part-F, Link-F, Loop-F}

@@ -1,9 +1,9 @@
 -- Where a component stands.
 use Rattle.std.specs.Prelude.{ℕ, suc, ◌≡◌, ◌+◌, ◌-◌, ◌≤◌, ◌<◌, List, [], Bool, true, false, Option, Some, None}
-use Rattle.zir_tree.specs.declared.value.Val.{Val}
-use Rattle.zir_tree.specs.declared.value.Val.TheVariants.{Unit as UnitVal}
-use Rattle.zir_tree.specs.declared.value.Slot.{Slot}
-use Rattle.zir_meaning.specs.Trace.{State, Point}
+use Rattle.zir_bit_tree.specs.declared.value.Val.{Val}
+use Rattle.zir_bit_tree.specs.declared.value.Val.TheVariants.{Unit as UnitVal}
+use Rattle.zir_bit_tree.specs.declared.value.Slot.{Slot}
+use Rattle.zir_bit_meaning.specs.Trace.{State, Point}
 use Rattle.zir_machine.specs.declared.progress.Focus.{Focus}
 use Rattle.zir_machine.specs.declared.progress.Focus.TheVariants.{Begin, Ended, Giving, Given, Spent}
 use Rattle.zir_machine.specs.declared.progress.Progress.{Progress}

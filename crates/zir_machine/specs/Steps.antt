@@ -1,10 +1,10 @@
 -- What a step of a component is.
 use Rattle.std.specs.Prelude.{ℕ, ◌≡◌, ◌≢◌, ◌≤◌, ◌<◌, ◌⊎◌, Bool, true, Option, None}
-use Rattle.zir_tree.specs.declared.value.Val.{Val}
-use Rattle.zir_tree.specs.declared.ends.End.TheVariants.{Value}
-use Rattle.zir_meaning.specs.Trace.{State}
-use Rattle.zir_laws.specs.Process.{Proc, Ends, Needs, spent_proc}
-use Rattle.zir_laws.specs.Offers.{Fed}
+use Rattle.zir_bit_tree.specs.declared.value.Val.{Val}
+use Rattle.zir_bit_tree.specs.declared.ends.End.TheVariants.{Value}
+use Rattle.zir_bit_meaning.specs.Trace.{State}
+use Rattle.zir_bit_laws.specs.Process.{Proc, Ends, Needs, spent_proc}
+use Rattle.zir_bit_laws.specs.Offers.{Fed}
 use Rattle.zir_steps.specs.declared.answer.Answer.{Answer}
 use Rattle.zir_steps.specs.declared.answer.Answer.TheVariants.{Yield, Skip, Done, Need, Stopped}
 use Rattle.zir_machine.specs.declared.progress.Focus.{Focus}

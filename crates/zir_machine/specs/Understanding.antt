@@ -2,18 +2,18 @@
 use Rattle.std.specs.Prelude.{ℕ, zero, suc, ◌≡◌, refl, ◌+◌, ◌-◌, ◌≤◌, ◌≢◌, List, [], ◌∷◌, Bool, true, false, ◌&&◌, nat_le, nat_eq, Option, Some, None, is_none}
 use Rattle.std.proofs.Common.{ap, arith, sym, subst, ◌∙◌, eq-eqb}
 use Rattle.std.proofs.lemmas.Bool.{leb-true, le-leb, eqb-true}
-use Rattle.zir_tree.specs.declared.value.Val.{Val}
+use Rattle.zir_bit_tree.specs.declared.value.Val.{Val}
 use Rattle.zir_tree.specs.declared.place.Place.{Place}
-use Rattle.zir_tree.specs.declared.tree.Comp.{Comp, Take as TakeComp}
-use Rattle.zir_tree.specs.declared.tree.Member.{Member}
-use Rattle.zir_meaning.specs.Store.{merge}
-use Rattle.zir_meaning.specs.Trace.{State, Point, point}
-use Rattle.zir_meaning.specs.Composition.{limit, over, at_point}
-use Rattle.zir_meaning.specs.Component.{bind}
-use Rattle.zir_laws.specs.Process.{Proc, Gives, Needs, spent_proc, NextProc, then_proc, turns_proc, proc, list_proc, holds, piped, pull}
-use Rattle.zir_laws.proofs.Equations.{merge-none}
-use Rattle.zir_laws.proofs.Limits.{holds-within}
-use Rattle.zir_laws.proofs.Counts.{counts-proc, counts-turns}
+use Rattle.zir_bit_tree.specs.declared.tree.Comp.{Comp, Take as TakeComp}
+use Rattle.zir_bit_tree.specs.declared.tree.Member.{Member}
+use Rattle.zir_bit_meaning.specs.Store.{merge}
+use Rattle.zir_bit_meaning.specs.Trace.{State, Point, point}
+use Rattle.zir_bit_meaning.specs.Composition.{limit, over, at_point}
+use Rattle.zir_bit_meaning.specs.Component.{bind}
+use Rattle.zir_bit_laws.specs.Process.{Proc, Gives, Needs, spent_proc, NextProc, then_proc, turns_proc, proc, list_proc, holds, piped, pull}
+use Rattle.zir_bit_laws.proofs.Equations.{merge-none}
+use Rattle.zir_bit_laws.proofs.Limits.{holds-within}
+use Rattle.zir_bit_laws.proofs.Counts.{counts-proc, counts-turns}
 use Rattle.zir_machine.specs.declared.progress.Focus.{Focus}
 use Rattle.zir_machine.specs.declared.progress.Focus.TheVariants.{Begin, Ended, Giving, Given, Spent}
 use Rattle.zir_machine.specs.declared.progress.Waits.{Waits}

@@ -1,17 +1,17 @@
 -- What a node means where the nodes inside it are understood already.
 use Rattle.std.specs.Prelude.{ℕ, zero, suc, ◌≡◌, ◌+◌, List, [], ◌∷◌, Option, Bool, true, false, ◌&&◌, nat_le, nat_eq, None, is_none}
-use Rattle.zir_tree.specs.declared.value.Val.{Val}
-use Rattle.zir_tree.specs.declared.value.Val.TheVariants.{Unit as UnitVal}
-use Rattle.zir_tree.specs.declared.value.Slot.{Slot}
-use Rattle.zir_tree.specs.declared.ends.End.TheVariants.{Value}
+use Rattle.zir_bit_tree.specs.declared.value.Val.{Val}
+use Rattle.zir_bit_tree.specs.declared.value.Val.TheVariants.{Unit as UnitVal}
+use Rattle.zir_bit_tree.specs.declared.value.Slot.{Slot}
+use Rattle.zir_bit_tree.specs.declared.ends.End.TheVariants.{Value}
 use Rattle.zir_tree.specs.declared.place.Place.{Place}
-use Rattle.zir_tree.specs.declared.tree.Ident.{Ident}
-use Rattle.zir_tree.specs.declared.tree.Comp.{Comp, Block as BlockComp, Repeat as RepeatComp, Pipe as PipeComp}
-use Rattle.zir_tree.specs.declared.tree.Member.{Member}
-use Rattle.zir_meaning.specs.Trace.{State, point}
-use Rattle.zir_meaning.specs.Composition.{fresh}
-use Rattle.zir_meaning.specs.Component.{bind, assigns}
-use Rattle.zir_laws.specs.Process.{Proc, Gives, Ends, Needs, spent_proc, NextProc, then_proc, turns_proc, proc, list_proc, piped}
+use Rattle.zir_tree.specs.declared.ident.Ident.{Ident}
+use Rattle.zir_bit_tree.specs.declared.tree.Comp.{Comp, Block as BlockComp, Repeat as RepeatComp, Pipe as PipeComp}
+use Rattle.zir_bit_tree.specs.declared.tree.Member.{Member}
+use Rattle.zir_bit_meaning.specs.Trace.{State, point}
+use Rattle.zir_bit_meaning.specs.Composition.{fresh}
+use Rattle.zir_bit_meaning.specs.Component.{bind, assigns}
+use Rattle.zir_bit_laws.specs.Process.{Proc, Gives, Ends, Needs, spent_proc, NextProc, then_proc, turns_proc, proc, list_proc, piped}
 use Rattle.zir_machine.specs.declared.progress.Focus.{Focus}
 use Rattle.zir_machine.specs.declared.progress.Focus.TheVariants.{Begin, Ended, Giving, Given, Spent}
 use Rattle.zir_machine.specs.declared.progress.Progress.{Progress}

@@ -8,8 +8,9 @@ use crate::node::{Link, Loop, Node, Part};
 use crate::progress::{Base, Focus, Progress, Span, Waits};
 use sqlite_items::Boxed;
 use std::alloc::{AllocError, Global};
+use zir_bit_tree::tree::{Comp, Expr, Member};
+use zir_tree::ident::Ident;
 use zir_tree::name::Name;
-use zir_tree::tree::{Comp, Expr, Ident, Member};
 
 /// A copy of a name.
 fn copy_ident(alloc: Global, ident: &Ident) -> Result<Ident, AllocError>

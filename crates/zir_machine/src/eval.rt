@@ -1,12 +1,12 @@
 // The value of an expression.
 
 ghost use Rattle.std.specs.Prelude.{◌≡◌};
-ghost use Rattle.zir_meaning.specs.Evaluation.{is_one as is_one_of};
-ghost use Rattle.zir_meaning.specs.Store.{look_up};
+ghost use Rattle.zir_bit_meaning.specs.Evaluation.{is_one as is_one_of, xor_of};
+ghost use Rattle.zir_bit_meaning.specs.Store.{look_up};
 ghost use Rattle.zir_machine.specs.Values.{IsValue};
 
-use zir_tree::tree::Expr;
-use zir_tree::value::{Slot, Val};
+use zir_bit_tree::tree::Expr;
+use zir_bit_tree::value::{Slot, Val};
 
 /// The value of an expression over what is in scope.
 pub fn eval(e: &Expr, store: &[Slot]) -> Val
@@ -17,10 +17,20 @@ pub fn eval(e: &Expr, store: &[Slot]) -> Val
         Expr::Bit(b, _) => Val::Bit(*b),
         Expr::Variable(name) => value_at(store, name.id),
         Expr::Xor(a, b, _) => {
-            let left = is_one(eval(a.get(), store));
-            let right = is_one(eval(b.get(), store));
-            Val::Bit(left ^ right)
+            let left = eval(a.get(), store);
+            let right = eval(b.get(), store);
+            xor(left, right)
         }
+    }
+}
+
+/// The exclusive or of two bits, and `()` where the left value is none.
+fn xor(left: Val, right: Val) -> Val
+    ensures { result ≡ xor_of left right }
+{
+    match left {
+        Val::Unit => Val::Unit,
+        Val::Bit(bit) => Val::Bit(bit ^ is_one(right)),
     }
 }
 

@@ -12,12 +12,12 @@ use crate::eval::is_one;
 use crate::node::Node;
 use crate::progress::{Focus, Progress};
 use std::alloc::{AllocError, Global};
+use zir_bit_tree::tree::Comp;
+use zir_bit_tree::value::{Slot, Val};
 use zir_chunk::Chunk;
 use zir_steps::answer::Answer;
 use zir_steps::worker::Worker;
 use zir_tree::ends::{EndMark, Stamp};
-use zir_tree::tree::Comp;
-use zir_tree::value::{Slot, Val};
 
 /// The turns of loops that one call may begin.
 const FUEL: u32 = 4096;
@@ -102,7 +102,7 @@ impl Machine {
     ghost use Rattle.zir_steps.specs.History.{History, trace_of};
     ghost use Rattle.zir_steps.specs.Says.{MayTick, Works};
     ghost use Rattle.zir_steps.specs.declared.answer.Answer.TheVariants.{Done};
-    ghost use Rattle.zir_tree.specs.declared.ends.End.TheVariants.{Value};
+    ghost use Rattle.zir_bit_tree.specs.declared.ends.End.TheVariants.{Value};
 
     /// The machine of a component, before its first tick. It has no ticks until it is reset.
     pub fn open(alloc: Global, c: &Comp) -> Result<Machine, AllocError>

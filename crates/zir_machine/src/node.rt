@@ -2,11 +2,11 @@
 
 ghost use Rattle.std.specs.Prelude.{◌≡◌, ◌≢◌, ◌+◌, ◌≤◌, ◌<◌, ◌^◌, ℕ, Option, IfOk, OnOk, true, false, Some, None, length, map, drop};
 ghost use Rattle.zir_tree.specs.declared.place.Place.{Place};
-ghost use Rattle.zir_tree.specs.declared.value.Val.{Val};
-ghost use Rattle.zir_tree.specs.declared.tree.Comp.{Take as TakeComp, Emit as EmitComp, Return as ReturnComp};
-ghost use Rattle.zir_meaning.specs.Trace.{State};
-ghost use Rattle.zir_meaning.specs.Store.{bound};
-ghost use Rattle.zir_laws.specs.Process.{Proc, proc, list_proc, turns_proc, then_proc, piped};
+ghost use Rattle.zir_bit_tree.specs.declared.value.Val.{Val};
+ghost use Rattle.zir_bit_tree.specs.declared.tree.Comp.{Take as TakeComp, Emit as EmitComp, Return as ReturnComp};
+ghost use Rattle.zir_bit_meaning.specs.Trace.{State};
+ghost use Rattle.zir_bit_meaning.specs.Store.{bound};
+ghost use Rattle.zir_bit_laws.specs.Process.{Proc, proc, list_proc, turns_proc, then_proc, piped};
 ghost use Rattle.zir_machine.specs.Standing.{is_going, state_of, base_point, IsReady, ended_value, given_value, Turned};
 ghost use Rattle.zir_machine.specs.Steps.{Stands, Stepped, Paced};
 ghost use Rattle.zir_machine.specs.Understood.{leaf, is_begin, ended_in, again, members_of, row_in, row_sound, row_done, loop_does, loop_comp, link_starts, link_goes, link_does, link_comp, link_sound, link_awaits, is_both, goes_sound, lifted, row_awaits, right_state, right_does, left_state, left_does};
@@ -16,10 +16,11 @@ ghost use Rattle.zir_machine.specs.Nodes.{comp_of, proc_in, is_sound, is_waiting
 use crate::eval::eval;
 use crate::progress::{Base, Focus, Progress, Span, Waits};
 use std::alloc::{AllocError, Global};
+use zir_bit_tree::tree::Expr;
+use zir_bit_tree::value::{Slot, Val};
 use zir_steps::answer::Answer;
+use zir_tree::ident::Ident;
 use zir_tree::place::Place;
-use zir_tree::tree::{Expr, Ident};
-use zir_tree::value::{Slot, Val};
 
 /// A component with where it stands inside.
 #[cycle(node)]

@@ -2,8 +2,8 @@
 
 ghost use Rattle.std.specs.Prelude.{◌≡◌, ◌+◌, ◌≤◌, ◌<◌, ◌^◌, Option, Some, None};
 
+use zir_bit_tree::value::Val;
 use zir_tree::place::Place;
-use zir_tree::value::Val;
 
 /// Where a component stands.
 #[derive(Clone, Copy, Debug)]

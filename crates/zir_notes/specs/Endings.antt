@@ -1,5 +1,5 @@
 -- The end of a run that a note tells of.
-use Rattle.zir_meaning.specs.Run.{RunEnd, ByValue, ByInput, ByBudget}
+use Rattle.zir_bit_meaning.specs.Run.{RunEnd, ByValue, ByInput, ByBudget}
 use Rattle.zir_notes.specs.declared.Ending.{Ending}
 use Rattle.zir_notes.specs.declared.Ending.TheVariants.{Value, Input, Spent}
 

@@ -5,13 +5,13 @@ ghost use Rattle.std.specs.Prelude.{◌≡◌, ◌+◌, ◌≤◌, ◌++◌, cod
 ghost use Rattle.arrayvec.specs.ArrayString.{array_string_len};
 ghost use Rattle.zir_outside.specs.Causes.{HasCause};
 ghost use Rattle.zir_outside.specs.Sinks.{Grew, GrewPart, Tells};
-ghost use Rattle.zir_meaning.specs.Notes.{counts_of, line_of, note_of, number_line, spelling_of};
+ghost use Rattle.zir_bit_meaning.specs.Notes.{counts_of, line_of, note_of, number_line, spelling_of};
 ghost use Rattle.zir_notes.specs.Endings.{run_end_of};
 
 use arrayvec::ArrayString;
 use itoa::Buffer;
+use zir_bit_tree::value::Val;
 use zir_outside::{Failed, Sink};
-use zir_tree::value::Val;
 
 /// How a run ended that has a note.
 #[derive(Clone, Copy, Debug)]
@@ -119,73 +119,27 @@ fn spelling(value: Val) -> &'static str
 #[cfg(test)]
 mod tests {
     use super::*;
-    use std::alloc::{AllocError, Global};
     use std::test::Fail;
     use zir_outside::memory::MemSink;
 
-    const BIT: Val = Val::Bit(true);
-
-    fn sink(alloc: Global, failing: &[u64]) -> Result<MemSink, AllocError> {
-        MemSink::new(alloc, 200, Vec::from_slice(alloc, failing)?)
-    }
-
     #[test]
-    fn notes_stand_as_the_language_says(rt: HostRuntime) -> Result<(), Fail> {
-        let cases = [
-            (
-                Ending::Value(BIT),
-                (7, 1, 1),
-                "ended '1\ntaken 1\nwritten 1\n",
-            ),
-            (
-                Ending::Value(Val::Bit(false)),
-                (6, 1, 1),
-                "ended '0\ntaken 1\nwritten 1\n",
-            ),
-            (
-                Ending::Value(Val::Unit),
-                (100, 0, 3),
-                "ended ()\ntaken 0\nwritten 3\n",
-            ),
-            (
-                Ending::Input,
-                (100, 16, 16),
-                "input ended\ntaken 16\nwritten 16\n",
-            ),
-            (
-                Ending::Input,
-                (100, 9, 10),
-                "input ended\ntaken 9\nwritten 10\n",
-            ),
-            (
-                Ending::Input,
-                (1, u64::MAX, u64::MAX),
-                "input ended\ntaken 18446744073709551615\nwritten 18446744073709551615\n",
-            ),
-            (Ending::Spent, (5, 0, 2), "out of ticks 5\nwritten 2\n"),
-            (Ending::Spent, (4, 3, 0), "out of ticks 4\nwritten 0\n"),
-            (
-                Ending::Spent,
-                (1 << 48, 0, 281_474_976_710_656),
-                "out of ticks 281474976710656\nwritten 281474976710656\n",
-            ),
-        ];
-        for (end, (ticks, taken, written), want) in cases {
-            let mut notes = sink(rt.alloc(), &[])?;
-            let put = write_end(&end, ticks, taken, written, &mut notes);
-            assert_eq!(rt; put, Ok(()));
-            assert_eq!(rt; notes.bytes(), want.as_bytes(), "at {want}");
-        }
+    fn a_fault_is_answered_once(rt: HostRuntime) -> Result<(), Fail> {
+        let failing = vec![in rt.alloc(); 1]?;
+        let mut notes = MemSink::new(rt.alloc(), 200, failing)?;
+        let value = Ending::Value(Val::Bit(false));
+        assert_eq!(rt; write_end(&value, 9, 2, 1, &mut notes), Err(Failed));
+        assert_eq!(rt; notes.bytes(), b"".as_slice());
+        assert_eq!(rt; write_end(&value, 9, 2, 1, &mut notes), Ok(()));
+        assert_eq!(rt; notes.bytes(), b"ended '0\ntaken 2\nwritten 1\n".as_slice());
         Ok(())
     }
 
     #[test]
-    fn a_fault_is_answered_once(rt: HostRuntime) -> Result<(), Fail> {
-        let mut notes = sink(rt.alloc(), &[1])?;
-        assert_eq!(rt; write_end(&Ending::Spent, 5, 0, 2, &mut notes), Err(Failed));
-        assert_eq!(rt; notes.bytes(), b"".as_slice());
-        assert_eq!(rt; write_end(&Ending::Spent, 5, 0, 2, &mut notes), Ok(()));
-        assert_eq!(rt; notes.bytes(), b"out of ticks 5\nwritten 2\n".as_slice());
+    fn there_is_room_for_the_longest_note(rt: HostRuntime) -> Result<(), Fail> {
+        let mut notes = MemSink::new(rt.alloc(), 200, Vec::new(rt.alloc()))?;
+        let put = write_end(&Ending::Input, 1, u64::MAX, u64::MAX, &mut notes);
+        assert_eq!(rt; put, Ok(()));
+        assert_eq!(rt; notes.bytes().len(), 68);
         Ok(())
     }
 }

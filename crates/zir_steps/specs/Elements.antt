@@ -1,9 +1,9 @@
 -- Values as the cells of elements, and elements of a chunk as they are received.
 use Rattle.std.specs.Prelude.{ℕ, ℤ, pos, negsuc, ◌≡◌, Bool, false, List, [], ◌∷◌, ◌++◌, take, replicate, if◌then◌else◌, nat_eq, Some, slice_get, max}
-use Rattle.zir_tree.specs.declared.value.Val.{Val}
-use Rattle.zir_tree.specs.declared.value.Val.TheVariants.{Unit as UnitVal, Bit as BitVal}
+use Rattle.zir_bit_tree.specs.declared.value.Val.{Val}
+use Rattle.zir_bit_tree.specs.declared.value.Val.TheVariants.{Unit as UnitVal, Bit as BitVal}
 use Rattle.zir_tree.specs.declared.ends.Stamp.{Stamp}
-use Rattle.zir_meaning.specs.Trace.{Out}
+use Rattle.zir_bit_meaning.specs.Trace.{Out}
 use Rattle.zir_chunk.specs.Contents.{Contents, cells_of as chunk_cells, stamps_of}
 
 -- the cells of a value: one for a bit, and none for unit

@@ -1,10 +1,10 @@
 -- What a worker stands for: a component, what it received, and what it gave.
 use Rattle.std.specs.Prelude.{ℕ, List, [], ◌∷◌, ◌++◌, ◌≤◌, ◌≡◌}
-use Rattle.zir_tree.specs.declared.tree.Comp.{Comp}
+use Rattle.zir_bit_tree.specs.declared.tree.Comp.{Comp}
 use Rattle.zir_tree.specs.declared.ends.Stamp.{Stamp}
-use Rattle.zir_meaning.specs.Store.{Store}
-use Rattle.zir_meaning.specs.Trace.{State, Out, Trace}
-use Rattle.zir_meaning.specs.Received.{worked}
+use Rattle.zir_bit_meaning.specs.Store.{Store}
+use Rattle.zir_bit_meaning.specs.Trace.{State, Out, Trace}
+use Rattle.zir_bit_meaning.specs.Received.{worked}
 
 -- a component with what was in scope where it began, the elements taken before it began, its ticks, the elements that it received, and the outputs that it gave
 pub record History : Type 0 where

@@ -1,13 +1,13 @@
 -- Worked rows: traces over elements with their points, computed from the definitions.
 use Rattle.std.specs.Prelude.{true, false, [], ◌∷◌, None, ◌≡◌, refl, map, pos}
 use denote.Hole.Carrier.{hidden}
-use Rattle.zir_tree.specs.declared.value.Val.TheVariants.{Bit as BitVal}
-use Rattle.zir_tree.specs.declared.ends.End.TheVariants.{Starved, Spent}
-use Rattle.zir_tree.specs.declared.tree.Expr.{Bit, Variable, Xor}
-use Rattle.zir_tree.specs.declared.tree.Expr.TheBlock.{shape-the_row-Expr-0, hidden-the_row-Expr-0}
-use Rattle.zir_tree.specs.declared.tree.Comp.{Comp, Take, Emit, Block, Repeat}
-use Rattle.zir_tree.specs.declared.tree.Comp.TheBlock.{shape-the_row-Member-0, hidden-the_row-Member-0, shape-the_row-Comp-1, hidden-the_row-Comp-1}
-use Rattle.zir_tree.specs.declared.tree.Ident.{Ident}
+use Rattle.zir_bit_tree.specs.declared.value.Val.TheVariants.{Bit as BitVal}
+use Rattle.zir_bit_tree.specs.declared.ends.End.TheVariants.{Starved, Spent}
+use Rattle.zir_bit_tree.specs.declared.tree.Expr.{Bit, Variable, Xor}
+use Rattle.zir_bit_tree.specs.declared.tree.Expr.TheBlock.{shape-the_row-Expr-0, hidden-the_row-Expr-0}
+use Rattle.zir_bit_tree.specs.declared.tree.Comp.{Comp, Take, Emit, Block, Repeat}
+use Rattle.zir_bit_tree.specs.declared.tree.Comp.TheBlock.{shape-the_row-Member-0, hidden-the_row-Member-0, shape-the_row-Comp-1, hidden-the_row-Comp-1}
+use Rattle.zir_tree.specs.declared.ident.Ident.{Ident}
 use Rattle.zir_tree.specs.declared.place.Place.{Place}
 use Rattle.std.specs.Prelude.{ℕ, Some}
 use Rattle.zir_steps.specs.History.{History, trace_of, stamp_of}

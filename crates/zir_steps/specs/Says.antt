@@ -1,12 +1,12 @@
 -- What an answer says of a history, when calls may come, and how an end is told.
 use Rattle.std.specs.Prelude.{ℕ, ◌≡◌, ◌<◌, List, ◌∷◌, ◌++◌, Option, Some, None, Bool, true, false}
-use Rattle.zir_tree.specs.declared.value.Val.{Val}
-use Rattle.zir_tree.specs.declared.ends.End.{End}
-use Rattle.zir_tree.specs.declared.ends.End.TheVariants.{Value, Starved, Trap as Trapped, Spent}
+use Rattle.zir_bit_tree.specs.declared.value.Val.{Val}
+use Rattle.zir_bit_tree.specs.declared.ends.End.{End}
+use Rattle.zir_bit_tree.specs.declared.ends.End.TheVariants.{Value, Starved, Trap as Trapped, Spent}
 use Rattle.zir_tree.specs.declared.ends.EndMark.{EndMark}
 use Rattle.zir_tree.specs.declared.ends.EndMark.TheVariants.{Value as ValueMark, Starved as StarvedMark, Trap as TrapMark, Spent as SpentMark}
 use Rattle.zir_tree.specs.declared.ends.Stamp.{Stamp}
-use Rattle.zir_meaning.specs.Trace.{State, Out}
+use Rattle.zir_bit_meaning.specs.Trace.{State, Out}
 use Rattle.zir_steps.specs.History.{History, trace_of}
 use Rattle.zir_steps.specs.declared.answer.Answer.{Answer}
 use Rattle.zir_steps.specs.declared.answer.Answer.TheVariants.{Yield, Skip, Done, Need, Stopped}

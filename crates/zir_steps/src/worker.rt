@@ -2,8 +2,8 @@
 
 ghost use Rattle.std.specs.Prelude.{ℕ, ℤ, ◌≡◌, ◌+◌, ◌<◌, ◌≤◌, ◌⊎◌, ◌++◌, ◌∷◌, [], List, Option, Some, None, IfOk, OnOk, IfSome, is_some, length};
 ghost use Rattle.zir_tree.specs.declared.ends.Stamp.{Stamp as StampOf};
-ghost use Rattle.zir_tree.specs.declared.tree.Comp.{Comp};
-ghost use Rattle.zir_meaning.specs.Trace.{Out};
+ghost use Rattle.zir_bit_tree.specs.declared.tree.Comp.{Comp};
+ghost use Rattle.zir_bit_meaning.specs.Trace.{Out};
 ghost use Rattle.zir_chunk.specs.Contents.{AtMost, HasRoom, last_stamp};
 ghost use Rattle.zir_steps.specs.declared.answer.Answer.{Answer as AnswerOf};
 ghost use Rattle.zir_steps.specs.declared.answer.Answer.TheVariants.{Yield, Need};

@@ -1,7 +1,7 @@
 use Rattle.std.proofs.Common.{[], true, refl}
 use Rattle.std.proofs.lemmas.Result.{err_from_is_err_and}
-use Rattle.zir_meaning.specs.Composition.{values}
-use Rattle.zir_meaning.specs.Samples.{spell}
+use Rattle.zir_bit_meaning.specs.Composition.{values}
+use Rattle.zir_bit_meaning.specs.Samples.{spell}
 use Rattle.zir_drive.specs.Runs.{trace_of}
 use Rattle.zir_drive.proofs.Giving.{grew_none}
 use Rattle.zir_drive.proofs.drive.Goals as goal

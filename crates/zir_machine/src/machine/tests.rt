@@ -4,13 +4,14 @@ use crate::machine::Machine;
 use sqlite_items::{Boxed, Items};
 use std::alloc::{AllocError, Global};
 use std::test::Fail;
+use zir_bit_tree::tree::{Comp, Expr, Member};
 use zir_chunk::Chunk;
 use zir_steps::answer::Answer;
 use zir_steps::worker::Worker;
 use zir_tree::ends::Stamp;
+use zir_tree::ident::Ident;
 use zir_tree::name::Name;
 use zir_tree::place::Place;
-use zir_tree::tree::{Comp, Expr, Ident, Member};
 
 const HERE: Place = Place { line: 1, col: 1 };
 

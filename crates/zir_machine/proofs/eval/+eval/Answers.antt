@@ -5,7 +5,7 @@ use Rattle.zir_machine.proofs.eval.+eval.Goals as goal
 
 pub returns-in-Xor : goal.returns-in-Xor
 returns-in-Xor t c =
-    rw (c.in-Xor.is, c.is_one-left.ensures, c.is_one-right.ensures)
-    (xor_value c.in-Xor.a c.in-Xor.b _ c.args.store.now c.eval.result c.eval-in-Xor.result
-    (subst (λ e. IsValue e c.args.store.now c.eval.result) c.get.ensures c.eval.ensures)
-    (subst (λ e. IsValue e c.args.store.now c.eval-in-Xor.result) c.get-in-Xor.ensures c.eval-in-Xor.ensures))
+    rw (c.in-Xor.is, c.xor.ensures)
+    (xor_value c.in-Xor.a c.in-Xor.b _ c.args.store.now c.eval-left.result c.eval-right.result
+    (subst (λ e. IsValue e c.args.store.now c.eval-left.result) c.get.ensures c.eval-left.ensures)
+    (subst (λ e. IsValue e c.args.store.now c.eval-right.result) c.get-in-Xor.ensures c.eval-right.ensures))

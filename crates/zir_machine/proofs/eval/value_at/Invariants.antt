@@ -1,5 +1,5 @@
 use Rattle.std.proofs.Common.{◌≡◌, drop}
-use Rattle.zir_meaning.specs.Store.{look_up}
+use Rattle.zir_bit_meaning.specs.Store.{look_up}
 use Rattle.zir_machine.proofs.eval.value_at.Given as goal
 
 abbrev pub invariant-loop-slot : goal.invariant-loop-slot

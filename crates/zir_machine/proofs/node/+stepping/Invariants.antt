@@ -1,5 +1,5 @@
 use Rattle.std.specs.Prelude.{◌+◌, ◌-◌, ◌*◌, ◌≡◌, ◌≤◌, true, map, length}
-use Rattle.zir_laws.specs.Offers.{Fed}
+use Rattle.zir_bit_laws.specs.Offers.{Fed}
 use Rattle.zir_machine.specs.Heights.{height, heights}
 use Rattle.zir_machine.specs.Standing.{is_going, state_of, IsReady}
 use Rattle.zir_machine.specs.Steps.{Uses, Took}

@@ -1,5 +1,5 @@
 use Rattle.std.proofs.Common.{◌≡◌, false, rules, subst}
-use Rattle.zir_meaning.specs.Samples.{spell_bits}
+use Rattle.zir_bit_meaning.specs.Samples.{spell_bits}
 use Rattle.zir_drive.specs.declared.DriveError.TheVariants.{Write}
 use Rattle.zir_drive.specs.Driving.{Broke}
 use Rattle.zir_drive.proofs.Giving.{part_whole}

@@ -1,6 +1,6 @@
 use Rattle.std.specs.Prelude.{Option, Some, IfSome}
 use Rattle.std.proofs.Common.{ap, sym, subst, refl}
-use Rattle.zir_tree.specs.declared.value.Val.{Val}
+use Rattle.zir_bit_tree.specs.declared.value.Val.{Val}
 use Rattle.zir_tree.specs.declared.ends.Stamp.{Stamp}
 use Rattle.zir_chunk.specs.Contents.{IsSmall}
 use Rattle.zir_machine.specs.declared.machine.Element.{Element}

@@ -1,12 +1,12 @@
 use Rattle.std.proofs.Common.{◌∙◌, ap, sym, subst, refl, arith}
 use Rattle.std.specs.Prelude.{Option, [], ◌+◌}
-use Rattle.zir_tree.specs.declared.value.Val.{Val}
+use Rattle.zir_bit_tree.specs.declared.value.Val.{Val}
 use Rattle.zir_machine.specs.Standing.{is_going, state_of, base_point}
 use Rattle.zir_machine.specs.Steps.{Stands}
 use Rattle.zir_machine.specs.Understood.{right_does, left_state, left_does}
 use Rattle.zir_machine.specs.Understanding.{four}
 use Rattle.zir_machine.specs.Nodes.{linked, meant}
-use Rattle.zir_laws.proofs.Limits.{piped-limit}
+use Rattle.zir_bit_laws.proofs.Limits.{piped-limit}
 use Rattle.zir_machine.proofs.Answering.{skip_answers, spent_answers, goes_on, left_past, left_ends, ended_answers, same_limit}
 use Rattle.zir_machine.proofs.node.Link.settle_left.Goals as goal
 

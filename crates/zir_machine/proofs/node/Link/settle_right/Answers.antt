@@ -4,7 +4,7 @@ use Rattle.zir_machine.specs.Standing.{is_going, state_of, base_point}
 use Rattle.zir_machine.specs.Steps.{Stands}
 use Rattle.zir_machine.specs.Understood.{right_state, right_does, left_does}
 use Rattle.zir_machine.specs.Nodes.{linked, meant}
-use Rattle.zir_laws.proofs.Limits.{piped-limit}
+use Rattle.zir_bit_laws.proofs.Limits.{piped-limit}
 use Rattle.zir_machine.proofs.Answering.{skip_answers, spent_answers, right_past, right_gives, right_ends, ended_answers, same_limit}
 use Rattle.zir_machine.proofs.node.Link.settle_right.Goals as goal
 

@@ -1,16 +1,8 @@
 // Expressions, components and programs.
 
-use crate::name::Name;
-use crate::place::Place;
 use sqlite_items::{Boxed, Items};
-
-/// A name as it is used or bound at a place, with the number of its declaration.
-#[derive(Debug, Drop)]
-pub struct Ident {
-    pub name: Name,
-    pub id: u32,
-    pub at: Place,
-}
+use zir_tree::ident::Ident;
+use zir_tree::place::Place;
 
 /// The type of a stream.
 #[derive(Clone, Copy, Debug, PartialEq, Eq)]

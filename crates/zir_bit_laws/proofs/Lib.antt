@@ -1,0 +1,14 @@
+pub mod Equations
+pub mod Counts
+pub mod Bounded
+pub mod Fuel
+pub mod Limits
+pub mod Offers
+pub mod Late
+pub mod Joins
+pub mod Runs
+pub mod Feed
+pub mod Inputs
+pub mod Prefix
+pub mod Budget
+pub mod Cost

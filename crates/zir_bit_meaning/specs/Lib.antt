@@ -1,0 +1,11 @@
+pub mod Store
+pub mod Trace
+pub mod Evaluation
+pub mod Composition
+pub mod Component
+pub mod Received
+pub mod Samples
+pub mod Run
+pub mod Rows
+pub mod Notes
+pub mod Answer
