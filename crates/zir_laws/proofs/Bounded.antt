@@ -1,18 +1,17 @@
 -- Within its budget a process stays inside its limit of ticks, and each element and each output costs it one.
-use Rattle.std.specs.Prelude.{ℕ, zero, suc, ◌+◌, ◌≤◌, ◌<◌, List, ◌≡◌, Bool, true, false, nat_le, length, refl}
-use Rattle.std.proofs.Common.{arith}
+use Rattle.std.specs.Prelude.{ℕ, zero, suc, ◌+◌, ◌≤◌, ◌<◌, List, ◌≡◌, Bool, true, false, nat_le, refl}
+use Rattle.std.proofs.Common.{◌∙◌, arith}
 use Rattle.std.proofs.lemmas.Bool.{leb-true}
 use Rattle.zir_tree.specs.declared.value.Val.{Val}
-use Rattle.zir_tree.specs.declared.value.Val.TheVariants.{Unit as UnitVal}
+use Rattle.zir_tree.specs.declared.value.Slot.{Slot}
 use Rattle.zir_tree.specs.declared.ends.End.{End}
 use Rattle.zir_tree.specs.declared.ends.End.TheVariants.{Value, Starved, Trap as Trapped, Spent}
-use Rattle.zir_tree.specs.declared.tree.Expr.{Expr, Unit as UnitExpr, Bit, Variable, Xor', end_of-Expr, more_of-Expr}
-use Rattle.zir_tree.specs.declared.tree.Comp.{Comp, Take, Emit, Return, Block', Repeat', Pipe', end_of-Comp, more_of-Comp, Row_of-Member, end_of-Member, more_of-Member}
 use Rattle.zir_meaning.specs.Trace.{State, Point, point}
-use Rattle.zir_meaning.specs.Evaluation.{Eval, Got, Traps, RunsOut, ev, then_eval}
-use Rattle.zir_meaning.specs.Composition.{limit, over, at_point, fresh}
-use Rattle.zir_meaning.specs.Component.{bind, assigns}
-use Rattle.zir_laws.specs.Process.{Proc, Gives, Ends, Needs, end_proc, NextProc, then_proc, tick_proc, tick_proc_of, with_proc, turns_proc, holds, inside, pull, piped, proc, members_proc}
+use Rattle.zir_meaning.specs.Evaluation.{Eval, Got, Traps, RunsOut}
+use Rattle.zir_meaning.specs.Composition.{limit, over, at_point}
+use Rattle.zir_laws.specs.Process.{Proc, Gives, Ends, Needs, end_proc, NextProc, then_proc, tick_proc, tick_proc_of, with_proc, choose_proc, holds, inside, pull, piped}
+use Rattle.zir_laws.specs.Acts.{seen_proc}
+use Rattle.zir_laws.proofs.Evaluating.{EvalKeeps}
 
 -- from t ticks on each output stands at more ticks than what came before it and at no more than n, each element costs a tick, and each state has n ticks in all
 abbrev pub Bounded : ℕ → ℕ → Proc → Type 0
@@ -24,7 +23,7 @@ Bounded n t (Ends Spent s) = Unit {0}
 Bounded n t (Needs s f) = (t ≤ s.ticks) × (limit s ≡ n) × ((x : Val) → Bounded n (s.ticks + 1) (f x))
 
 -- a process that is bounded from some ticks on is bounded from fewer
-bounded-earlier : (p : Proc) (n t u : ℕ) → u ≤ t → Bounded n t p → Bounded n u p
+pub bounded-earlier : (p : Proc) (n t u : ℕ) → u ≤ t → Bounded n t p → Bounded n u p
 bounded-earlier (Gives o p) n t u le h = (omega arith, h.1, h.2)
 bounded-earlier (Ends (Value v) s) n t u le h = (omega arith, h.1)
 bounded-earlier (Ends Starved s) n t u le h = h
@@ -46,7 +45,8 @@ bounded-then (Ends Spent s) next n t h k = tt
 bounded-then (Needs s f) next n t h k = (h.0, h.1, λ x. bounded-then (f x) next n (s.ticks + 1) (h.2 x) k)
 
 -- one of these ticks, and then what follows
-bounded-tick_of : (l n t : ℕ) (s : State) (next : State → Proc) → s.ticks + l ≡ n → ((s' : State) → s.ticks + 1 ≤ s'.ticks → limit s' ≡ n → Bounded n t (next s')) →
+bounded-tick_of : (l n t : ℕ) (s : State) (next : State → Proc) → s.ticks + l ≡ n →
+    ((s' : State) → s.ticks + 1 ≤ s'.ticks → limit s' ≡ n → Bounded n t (next s')) →
     Bounded n t (tick_proc_of l s next)
 bounded-tick_of zero n t s next e k = tt
 bounded-tick_of (suc l) n t s next e k = k (record s { ticks = s.ticks + 1; left = l }) (omega arith) (omega arith)
@@ -56,39 +56,16 @@ pub bounded-tick : (n t : ℕ) (s : State) (next : State → Proc) → limit s �
     Bounded n t (tick_proc s next)
 bounded-tick n t s next e k = bounded-tick_of s.left n t s next e k
 
--- an evaluation ends at a state of n ticks in all, of which no fewer than t are used
-abbrev pub EvalBounded : ℕ → ℕ → Eval → Type 0
-EvalBounded n t (Got v s) = (t ≤ s.ticks) × (limit s ≡ n)
-EvalBounded n t (Traps c s) = (t ≤ s.ticks) × (limit s ≡ n)
-EvalBounded n t RunsOut = Unit {0}
-
--- an evaluation and what follows it
-bounded-then_eval : (e : Eval) (next : Val → State → Eval) (n t : ℕ) → EvalBounded n t e → ((v : Val) (s : State) → t ≤ s.ticks → limit s ≡ n → EvalBounded n t (next v s)) →
-    EvalBounded n t (then_eval e next)
-bounded-then_eval (Got v s) next n t h k = k v s h.0 h.1
-bounded-then_eval (Traps c s) next n t h k = h
-bounded-then_eval RunsOut next n t h k = tt
-
--- each expression
-pub bounded-ev : (e : Expr) (n t : ℕ) (s : State) → t ≤ s.ticks → limit s ≡ n → EvalBounded n t (ev e s)
-bounded-ev (UnitExpr p) n t s le h = (le, h)
-bounded-ev (Bit b p) n t s le h = (le, h)
-bounded-ev (Variable name) n t s le h = (le, h)
-bounded-ev (Xor' _ (more_of-Expr a end_of-Expr) _ (more_of-Expr b end_of-Expr) p) n t s le h =
-    bounded-then_eval (ev a s) _ n t (bounded-ev a n t s le h) (λ v s' le' h'. bounded-then_eval (ev b s') _ n t (bounded-ev b n t s' le' h') (λ w s'' le'' h''. (le'', h'')))
-
 -- a process that evaluates first
-bounded-with : (e : Eval) (next : NextProc) (n t : ℕ) → EvalBounded n t e → NextBounded n next → Bounded n t (with_proc e next)
-bounded-with (Got v s) next n t h k = bounded-earlier (next v s) n s.ticks t h.0 (k v s h.1)
-bounded-with (Traps c s) next n t h k = h
-bounded-with RunsOut next n t h k = tt
+pub bounded-with : (e : Eval) (next : NextProc) (n : ℕ) (s : State) → limit s ≡ n → EvalKeeps s e → NextBounded n next → Bounded n s.ticks (with_proc e next)
+bounded-with (Got v s') next n s e h k = bounded-earlier (next v s') n s'.ticks s.ticks h.1 (k v s' (h.2 ∙ e))
+bounded-with (Traps c s') next n s e h k = (h.1, h.2 ∙ e)
+bounded-with RunsOut next n s e h k = tt
 
--- turns of a body
-bounded-turns : (most n : ℕ) (body : State → Proc) → ((s : State) → limit s ≡ n → Bounded n s.ticks (body s)) → (s : State) → limit s ≡ n → Bounded n s.ticks (turns_proc most body s)
-bounded-turns zero n body h s e = tt
-bounded-turns (suc most) n body h s e =
-    bounded-tick n s.ticks s _ e
-    (λ s' le e'. bounded-then (body s') _ n s.ticks (bounded-earlier (body s') n s'.ticks s.ticks (omega arith) (h s' e')) (λ v s'' e''. bounded-turns most n body h s'' e''))
+-- one of two
+pub bounded-choose : (b : Bool) (p q : State → Proc) (s : State) (n t : ℕ) → Bounded n t (p s) → Bounded n t (q s) → Bounded n t (choose_proc b p q s)
+bounded-choose true p q s n t h g = h
+bounded-choose false p q s n t h g = g
 
 -- what follows at a point within the limit
 bounded-inside : (n t : ℕ) (s : State) (p : Point) (next : Proc) → limit s ≡ n → (p.ticks ≤ n → Bounded n t next) → Bounded n t (inside s p next)
@@ -122,7 +99,8 @@ bounded-pull ids (Needs s1 g) n t s next s2 e h k =
     (λ le. (
       omega arith,
       limit-at_point n s p e le,
-      λ x. bounded-earlier (pull ids s next s2 (g x)) n (s1.ticks + 1 + s2.ticks) (p.ticks + 1) (omega arith) (bounded-pull ids (g x) n (s1.ticks + 1) s next s2 e (h.2 x) k),
+      λ x. bounded-earlier (pull ids s next s2 (g x)) n (s1.ticks + 1 + s2.ticks) (p.ticks + 1) (omega arith)
+          (bounded-pull ids (g x) n (s1.ticks + 1) s next s2 e (h.2 x) k),
     ))
 
 -- a composition, from the left side's last point and the right side's ticks
@@ -134,25 +112,14 @@ bounded-piped ids (Ends x s2) m n t s base l e hr hl = bounded-end x m t n (base
 bounded-piped ids (Needs s2 f) m n t s base l e hr hl =
     bounded-earlier (pull ids s (λ v p l'. piped ids s (f v) p l') s2 l) n (base.ticks + s2.ticks) (base.ticks + t) (omega arith)
     (bounded-pull ids l n base.ticks s (λ v p l'. piped ids s (f v) p l') s2 e hl
-    (λ v p l' h. bounded-earlier (piped ids s (f v) p l') n (p.ticks + (s2.ticks + 1)) (p.ticks + s2.ticks) (omega arith) (bounded-piped ids (f v) m n (s2.ticks + 1) s p l' e (hr.2 v) h)))
+    (λ v p l' h. bounded-earlier (piped ids s (f v) p l') n (p.ticks + (s2.ticks + 1)) (p.ticks + s2.ticks) (omega arith)
+    (bounded-piped ids (f v) m n (s2.ticks + 1) s p l' e (hr.2 v) h)))
 
-mutual
-  -- the process of each component
-  pub bounded-proc : (c : Comp) (n : ℕ) (s : State) → limit s ≡ n → Bounded n s.ticks (proc c s)
-  bounded-proc (Take p) n s e = (omega arith, e, λ x. bounded-tick n (s.ticks + 1) s _ e (λ s' le e'. (le, e')))
-  bounded-proc (Emit x p) n s e =
-      bounded-with (ev x s) _ n s.ticks (bounded-ev x n s.ticks s (omega arith) e)
-      (λ v s' e'. bounded-tick n s'.ticks s' _ e' (λ s'' le e''. (omega arith, omega arith, (omega arith, e''))))
-  bounded-proc (Return x p) n s e =
-      bounded-with (ev x s) _ n s.ticks (bounded-ev x n s.ticks s (omega arith) e) (λ v s' e'. bounded-tick n s'.ticks s' _ e' (λ s'' le e''. (omega arith, e'')))
-  bounded-proc (Block' _ ms p) n s e = bounded-members ms n (length s.store) UnitVal s e
-  bounded-proc (Repeat' _ (more_of-Comp c end_of-Comp) p) n s e = bounded-turns s.left n (proc c) (λ s' e'. bounded-proc c n s' e') s e
-  bounded-proc (Pipe' _ (more_of-Comp a end_of-Comp) _ (more_of-Comp b end_of-Comp) p) n s e =
-      bounded-earlier (piped (assigns a) s (proc b (fresh s)) (point s) (proc a s)) n (s.ticks + 0) s.ticks (omega arith)
-      (bounded-piped (assigns a) (proc b (fresh s)) s.left n 0 s (point s) (proc a s) e (bounded-proc b s.left (fresh s) (omega arith)) (bounded-proc a n s e))
-
-  -- and of the members of a block
-  pub bounded-members : {m : _} (ms : Row_of-Member m) (n k : ℕ) (v : Val) (s : State) → limit s ≡ n → Bounded n s.ticks (members_proc ms k v s)
-  bounded-members end_of-Member n k v s e = (omega arith, e)
-  bounded-members (more_of-Member name c ms) n k v s e =
-      bounded-then (proc c s) _ n s.ticks (bounded-proc c n s e) (λ w s' e'. bounded-members ms n k w (bind name w s') e')
+-- a called body, as its caller sees it
+pub bounded-seen : (locals : List Slot) (p : Proc) (n t : ℕ) → Bounded n t p → Bounded n t (seen_proc locals p)
+bounded-seen locals (Gives o p) n t h = (h.0, h.1, bounded-seen locals p n o.at.ticks h.2)
+bounded-seen locals (Ends (Value v) s) n t h = h
+bounded-seen locals (Ends Starved s) n t h = h
+bounded-seen locals (Ends (Trapped c) s) n t h = h
+bounded-seen locals (Ends Spent s) n t h = tt
+bounded-seen locals (Needs s f) n t h = (h.0, h.1, λ x. bounded-seen locals (f x) n (s.ticks + 1) (h.2 x))

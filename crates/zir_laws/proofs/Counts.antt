@@ -1,16 +1,15 @@
 -- A process counts the elements that it takes, and its ticks never fall.
-use Rattle.std.specs.Prelude.{ℕ, zero, suc, ◌+◌, ◌≤◌, List, ◌≡◌, refl, Bool, true, false, nat_le, length}
-use Rattle.std.proofs.Common.{sym, ap, ◌∙◌, arith, subst}
+use Rattle.std.specs.Prelude.{ℕ, zero, suc, ◌+◌, ◌≤◌, List, ◌≡◌, refl, Bool, true, false, nat_le}
+use Rattle.std.proofs.Common.{sym, arith, subst}
 use Rattle.zir_tree.specs.declared.value.Val.{Val}
-use Rattle.zir_tree.specs.declared.value.Val.TheVariants.{Unit as UnitVal}
+use Rattle.zir_tree.specs.declared.value.Slot.{Slot}
 use Rattle.zir_tree.specs.declared.ends.End.TheVariants.{Value, Starved, Trap as Trapped, Spent}
-use Rattle.zir_tree.specs.declared.tree.Expr.{Expr, Unit as UnitExpr, Bit, Variable, Xor', end_of-Expr, more_of-Expr}
-use Rattle.zir_tree.specs.declared.tree.Comp.{Comp, Take, Emit, Return, Block', Repeat', Pipe', end_of-Comp, more_of-Comp, Row_of-Member, end_of-Member, more_of-Member}
 use Rattle.zir_meaning.specs.Trace.{State, Point, point}
-use Rattle.zir_meaning.specs.Evaluation.{Eval, Got, Traps, RunsOut, ev, then_eval}
-use Rattle.zir_meaning.specs.Composition.{limit, over, at_point, fresh}
-use Rattle.zir_meaning.specs.Component.{bind, assigns}
-use Rattle.zir_laws.specs.Process.{Proc, Gives, Ends, Needs, spent_proc, NextProc, then_proc, tick_proc, tick_proc_of, with_proc, turns_proc, holds, pull, piped, proc, members_proc}
+use Rattle.zir_meaning.specs.Evaluation.{Eval, Got, Traps, RunsOut}
+use Rattle.zir_meaning.specs.Composition.{limit, over, at_point}
+use Rattle.zir_laws.specs.Process.{Proc, Gives, Ends, Needs, spent_proc, NextProc, then_proc, tick_proc, tick_proc_of, with_proc, choose_proc, holds, pull, piped}
+use Rattle.zir_laws.specs.Acts.{seen_proc}
+use Rattle.zir_laws.proofs.Evaluating.{EvalKeeps}
 
 -- from k elements taken and no fewer ticks than t on, each point has taken what was consumed, and the ticks never fall
 abbrev pub Counts : ℕ → ℕ → Proc → Type 0
@@ -35,7 +34,7 @@ abbrev pub NextCounts : NextProc → Type 0
 NextCounts next = (v : Val) (s : State) → Counts s.taken s.ticks (next v s)
 
 -- a process that counts from a state counts from its numbers
-counts-from : (p : Proc) (s : State) (k t : ℕ) → s.taken ≡ k → t ≤ s.ticks → Counts s.taken s.ticks p → Counts k t p
+pub counts-from : (p : Proc) (s : State) (k t : ℕ) → s.taken ≡ k → t ≤ s.ticks → Counts s.taken s.ticks p → Counts k t p
 counts-from p s k t e le h = subst (λ k. Counts k t p) e (counts-earlier p s.taken s.ticks t le h)
 
 -- a process and what follows it
@@ -48,51 +47,27 @@ counts-then (Ends Spent s) next k t h n = tt
 counts-then (Needs s f) next k t h n = (h.0, h.1, λ x. counts-then (f x) next (k + 1) s.ticks (h.2 x) n)
 
 -- one of these ticks, and then what follows
-counts-tick_of : (n : ℕ) (s : State) (next : State → Proc) (k : ℕ) → ((s' : State) → s'.taken ≡ s.taken → Counts k s'.ticks (next s')) → Counts k s.ticks (tick_proc_of n s next)
+counts-tick_of : (n : ℕ) (s : State) (next : State → Proc) (k : ℕ) →
+    ((s' : State) → s'.taken ≡ s.taken → Counts k s'.ticks (next s')) → Counts k s.ticks (tick_proc_of n s next)
 counts-tick_of zero s next k h = tt
 counts-tick_of (suc n) s next k h =
     let s' : State = record s { ticks = s.ticks + 1; left = n } in counts-earlier (next s') k (s.ticks + 1) s.ticks (omega arith) (h s' refl)
 
 -- one tick, and then what follows
-pub counts-tick : (s : State) (next : State → Proc) (k : ℕ) → ((s' : State) → s'.taken ≡ s.taken → Counts k s'.ticks (next s')) → Counts k s.ticks (tick_proc s next)
+pub counts-tick : (s : State) (next : State → Proc) (k : ℕ) →
+    ((s' : State) → s'.taken ≡ s.taken → Counts k s'.ticks (next s')) → Counts k s.ticks (tick_proc s next)
 counts-tick s next k h = counts-tick_of s.left s next k h
 
--- an evaluation takes nothing, and its ticks never fall
-abbrev pub EvalCounts : State → Eval → Type 0
-EvalCounts s (Got v s') = (s'.taken ≡ s.taken) × (s.ticks ≤ s'.ticks)
-EvalCounts s (Traps c s') = (s'.taken ≡ s.taken) × (s.ticks ≤ s'.ticks)
-EvalCounts s RunsOut = Unit {0}
-
--- an evaluation and what follows it
-counts-then_eval : (e : Eval) (next : Val → State → Eval) (s : State) → EvalCounts s e → ((v : Val) (s' : State) → EvalCounts s' (next v s')) → EvalCounts s (then_eval e next)
-counts-then_eval (Got v s') next s h n = later (next v s') (n v s')
-  where
-    later : (e : Eval) → EvalCounts s' e → EvalCounts s e
-    later (Got w s'') g = (g.0 ∙ h.0, omega arith)
-    later (Traps c s'') g = (g.0 ∙ h.0, omega arith)
-    later RunsOut g = tt
-counts-then_eval (Traps c s') next s h n = h
-counts-then_eval RunsOut next s h n = tt
-
--- each expression
-pub counts-ev : (e : Expr) (s : State) → EvalCounts s (ev e s)
-counts-ev (UnitExpr p) s = (refl, omega arith)
-counts-ev (Bit b p) s = (refl, omega arith)
-counts-ev (Variable name) s = (refl, omega arith)
-counts-ev (Xor' _ (more_of-Expr a end_of-Expr) _ (more_of-Expr b end_of-Expr) p) s =
-    counts-then_eval (ev a s) _ s (counts-ev a s) (λ v s'. counts-then_eval (ev b s') _ s' (counts-ev b s') (λ w s''. (refl, omega arith)))
-
 -- a process that evaluates first
-counts-with : (e : Eval) (next : NextProc) (s : State) → EvalCounts s e → NextCounts next → Counts s.taken s.ticks (with_proc e next)
+pub counts-with : (e : Eval) (next : NextProc) (s : State) → EvalKeeps s e → NextCounts next → Counts s.taken s.ticks (with_proc e next)
 counts-with (Got v s') next s h n = counts-from (next v s') s' s.taken s.ticks h.0 h.1 (n v s')
-counts-with (Traps c s') next s h n = h
+counts-with (Traps c s') next s h n = (h.0, h.1)
 counts-with RunsOut next s h n = tt
 
--- turns of a body
-pub counts-turns : (most : ℕ) (body : State → Proc) → ((s : State) → Counts s.taken s.ticks (body s)) → (s : State) → Counts s.taken s.ticks (turns_proc most body s)
-counts-turns zero body h s = tt
-counts-turns (suc most) body h s =
-    counts-tick s _ s.taken (λ s' e. counts-then (body s') _ s.taken s'.ticks (subst (λ k. Counts k s'.ticks (body s')) e (h s')) (λ v s''. counts-turns most body h s''))
+-- one of two
+pub counts-choose : (b : Bool) (p q : State → Proc) (s : State) (k t : ℕ) → Counts k t (p s) → Counts k t (q s) → Counts k t (choose_proc b p q s)
+counts-choose true p q s k t h g = h
+counts-choose false p q s k t h g = g
 
 -- a process where a test holds
 counts-holds : (b : Bool) (p : Proc) (k t : ℕ) → Counts k t p → Counts k t (holds b p)
@@ -120,32 +95,26 @@ counts-pull ids (Needs s1 g) s next s2 k t h n =
 pub counts-piped : (ids : List ℕ) (r : Proc) (s : State) (j t2 : ℕ) (base : Point) (l : Proc) →
     Counts j t2 r → Counts base.taken base.ticks l → Counts base.taken (base.ticks + t2) (piped ids s r base l)
 counts-piped ids (Gives o r) s j t2 base l hr hl =
-    counts-holds (nat_le (base.ticks + o.at.ticks) (limit s)) (Gives (record { value = o.value; at = over ids base o.at }) (piped ids s r base l)) base.taken (base.ticks + t2)
+    counts-holds (nat_le (base.ticks + o.at.ticks) (limit s))
+    (Gives (record { value = o.value; at = over ids base o.at }) (piped ids s r base l)) base.taken (base.ticks + t2)
     (refl, omega arith, counts-piped ids r s j o.at.ticks base l hr.2 hl)
 counts-piped ids (Ends (Value v) s2) s j t2 base l hr hl =
-    counts-holds (nat_le (base.ticks + s2.ticks) (limit s)) (Ends (Value v) (at_point s (over ids base (point s2)))) base.taken (base.ticks + t2) (refl, omega arith)
+    counts-holds (nat_le (base.ticks + s2.ticks) (limit s)) (Ends (Value v) (at_point s (over ids base (point s2)))) base.taken (base.ticks + t2)
+    (refl, omega arith)
 counts-piped ids (Ends Starved s2) s j t2 base l hr hl = absurd hr
 counts-piped ids (Ends (Trapped c) s2) s j t2 base l hr hl =
-    counts-holds (nat_le (base.ticks + s2.ticks) (limit s)) (Ends (Trapped c) (at_point s (over ids base (point s2)))) base.taken (base.ticks + t2) (refl, omega arith)
+    counts-holds (nat_le (base.ticks + s2.ticks) (limit s)) (Ends (Trapped c) (at_point s (over ids base (point s2)))) base.taken (base.ticks + t2)
+    (refl, omega arith)
 counts-piped ids (Ends Spent s2) s j t2 base l hr hl = counts-holds (nat_le (base.ticks + s2.ticks) (limit s)) spent_proc base.taken (base.ticks + t2) tt
 counts-piped ids (Needs s2 f) s j t2 base l hr hl =
     counts-earlier (pull ids s (λ v p l'. piped ids s (f v) p l') s2 l) base.taken (base.ticks + s2.ticks) (base.ticks + t2) (omega arith)
     (counts-pull ids l s (λ v p l'. piped ids s (f v) p l') s2 base.taken base.ticks hl (λ v p l' h. counts-piped ids (f v) s (j + 1) s2.ticks p l' (hr.2 v) h))
 
-mutual
-  -- the process of each component
-  pub counts-proc : (c : Comp) (s : State) → Counts s.taken s.ticks (proc c s)
-  counts-proc (Take p) s = (refl, omega arith, λ x. counts-tick s _ (s.taken + 1) (λ s' e. (ap (λ k. k + 1) e, omega arith)))
-  counts-proc (Emit e p) s = counts-with (ev e s) _ s (counts-ev e s) (λ v s'. counts-tick s' _ s'.taken (λ s'' e. (e, omega arith, (e, omega arith))))
-  counts-proc (Return e p) s = counts-with (ev e s) _ s (counts-ev e s) (λ v s'. counts-tick s' _ s'.taken (λ s'' e. (e, omega arith)))
-  counts-proc (Block' _ ms p) s = counts-members ms (length s.store) UnitVal s
-  counts-proc (Repeat' _ (more_of-Comp c end_of-Comp) p) s = counts-turns s.left (proc c) (λ s'. counts-proc c s') s
-  counts-proc (Pipe' _ (more_of-Comp a end_of-Comp) _ (more_of-Comp b end_of-Comp) p) s =
-      counts-earlier (piped (assigns a) s (proc b (fresh s)) (point s) (proc a s)) s.taken (s.ticks + 0) s.ticks (omega arith)
-      (counts-piped (assigns a) (proc b (fresh s)) s 0 0 (point s) (proc a s) (counts-proc b (fresh s)) (counts-proc a s))
-
-  -- and of the members of a block
-  pub counts-members : {m : _} (ms : Row_of-Member m) (n : ℕ) (v : Val) (s : State) → Counts s.taken s.ticks (members_proc ms n v s)
-  counts-members end_of-Member n v s = (refl, omega arith)
-  counts-members (more_of-Member name c ms) n v s =
-      counts-then (proc c s) _ s.taken s.ticks (counts-proc c s) (λ w s'. counts-members ms n w (bind name w s'))
+-- a called body, as its caller sees it
+pub counts-seen : (locals : List Slot) (p : Proc) (k t : ℕ) → Counts k t p → Counts k t (seen_proc locals p)
+counts-seen locals (Gives o p) k t h = (h.0, h.1, counts-seen locals p k o.at.ticks h.2)
+counts-seen locals (Ends (Value v) s) k t h = h
+counts-seen locals (Ends Starved s) k t h = h
+counts-seen locals (Ends (Trapped c) s) k t h = h
+counts-seen locals (Ends Spent s) k t h = tt
+counts-seen locals (Needs s f) k t h = (h.0, h.1, λ x. counts-seen locals (f x) (k + 1) s.ticks (h.2 x))

@@ -1,6 +1,6 @@
 -- Over the elements of an input the trace over elements with their points is the trace itself.
 use Rattle.std.specs.Prelude.{ℕ, ◌+◌, ◌-◌, ◌≤◌, List, [], ◌∷◌, ◌≡◌, refl, nat_le}
-use Rattle.std.proofs.Common.{sym, ap, ◌∙◌, arith}
+use Rattle.std.proofs.Common.{sym, ap, ◌∙◌, arith, subst}
 use Rattle.std.proofs.lemmas.Bool.{le-leb}
 use Rattle.zir_tree.specs.declared.value.Val.{Val}
 use Rattle.zir_tree.specs.declared.ends.End.{End}
@@ -9,13 +9,14 @@ use Rattle.zir_meaning.specs.Store.{Store}
 use Rattle.zir_meaning.specs.Trace.{State, Point, point, Trace, ends, gives}
 use Rattle.zir_meaning.specs.Composition.{limit, over, at_point, within}
 use Rattle.zir_meaning.specs.Received.{from_input}
-use Rattle.zir_laws.specs.Process.{Proc, Gives, Ends, Needs, run, proc}
+use Rattle.zir_laws.specs.Process.{Proc, Gives, Ends, Needs, run}
 use Rattle.zir_laws.specs.Feed.{feed, FromInput}
 use Rattle.zir_laws.proofs.Equations.{merge-none}
-use Rattle.zir_laws.proofs.Counts.{Counts, counts-proc}
+use Rattle.zir_laws.proofs.Counts.{Counts}
 use Rattle.zir_laws.proofs.Late.{within-spent}
-use Rattle.zir_laws.proofs.Bounded.{Bounded, bounded-proc}
-use Rattle.zir_laws.proofs.Runs.{run-proc}
+use Rattle.zir_laws.proofs.Bounded.{Bounded}
+use Rattle.zir_laws.specs.Acts.{acts}
+use Rattle.zir_laws.proofs.Programs.{proceeds-acts, run-acts}
 use Rattle.zir_laws.proofs.Feed.{feeds}
 
 -- where a run begins, with so many ticks left
@@ -52,7 +53,8 @@ stands-within n store p t le = let z : p.ticks ≤ limit (begin n store) = omega
 
 -- an end over the point of the last element is that end
 end-stands : (e : End) (n : ℕ) (store : Store) (k : ℕ) (s2 : State) → s2.taken ≡ k → limit s2 ≡ n →
-    (let q = over [] (element_point store k) (point s2) in within (nat_le q.ticks (limit (begin n store))) (ends e (at_point (begin n store) q) [])) ≡ ends e s2 []
+    (let q = over [] (element_point store k) (point s2) in within (nat_le q.ticks (limit (begin n store)))
+    (ends e (at_point (begin n store) q) [])) ≡ ends e s2 []
 end-stands e n store k s2 t b =
     ap (λ q. within (nat_le q.ticks (limit (begin n store))) (ends e (at_point (begin n store) q) [])) (over-element store k (point s2) t)
     ∙ stands-within n store (point s2) (ends e (at_point (begin n store) (point s2)) []) (omega arith)
@@ -62,7 +64,8 @@ end-stands e n store k s2 t b =
 feed-input : (p : Proc) (n k t u : ℕ) (store : Store) → Counts k t p → Bounded n u p → (xs : List Val) →
     feed (begin n store) p (element_point store k) (from_input store k xs) ≡ no_rest (run p xs)
 feed-input (Gives o p) n k t u store h b xs =
-    ap (λ q. within (nat_le q.ticks (limit (begin n store))) (gives (record { value = o.value; at = q }) (feed (begin n store) p (element_point store k) (from_input store k xs))))
+    ap (λ q. within (nat_le q.ticks (limit (begin n store)))
+    (gives (record { value = o.value; at = q }) (feed (begin n store) p (element_point store k) (from_input store k xs))))
     (over-element store k o.at h.0)
     ∙ stands-within n store o.at _ b.1
     ∙ ap (gives o) (feed-input p n k o.at.ticks o.at.ticks store h.2 b.2 xs)
@@ -75,8 +78,10 @@ feed-input (Needs s2 f) n k t u store h b (x ∷ xs) = feed-input (f x) n (k + 1
 
 -- over the elements of an input the trace is the component's own
 pub from_input-trace : FromInput
-from_input-trace c n store xs =
+from_input-trace core c n store xs =
     let s : State = begin n store in
-    feeds c s (from_input store 0 xs)
-    ∙ feed-input (proc c s) n 0 0 0 store (counts-proc c s) (bounded-proc c n s (omega arith)) xs
-    ∙ ap no_rest (run-proc c s xs)
+    let z : limit s ≡ n = omega arith in
+    feeds core c s (from_input store 0 xs)
+    ∙ feed-input (acts core c s) n 0 0 0 store ((proceeds-acts core c).counts s)
+    (subst (λ n. Bounded n 0 (acts core c s)) z ((proceeds-acts core c).bounded s)) xs
+    ∙ ap no_rest (run-acts core c s xs)

@@ -3,10 +3,11 @@ use Rattle.std.specs.Prelude.{ℕ, ◌+◌, List, ◌++◌, ◌≡◌}
 use Rattle.zir_tree.specs.declared.value.Val.{Val}
 use Rattle.zir_tree.specs.declared.ends.End.{End}
 use Rattle.zir_tree.specs.declared.ends.End.TheVariants.{Value, Starved, Trap as Trapped, Spent}
-use Rattle.zir_tree.specs.declared.tree.Comp.{Comp}
+use Rattle.zir_tree.specs.declared.comp.Comp.{Comp}
+use Rattle.zir_tree.specs.declared.program.Core.{Core}
 use Rattle.zir_meaning.specs.Trace.{State, Out, Trace}
 use Rattle.zir_meaning.specs.Composition.{limit}
-use Rattle.zir_meaning.specs.Component.{tr}
+use Rattle.zir_meaning.specs.Instances.{means}
 use Rattle.zir_laws.specs.Prefixes.{OutsFrom, EndFrom}
 
 -- a state with so many more ticks left
@@ -29,4 +30,5 @@ Funds Spent limit m t t' = GoesOn limit t t'
 
 -- a trace that is not spent is the same with more ticks, and a spent one goes on past its limit
 abbrev pub Budgets : Type 0
-Budgets = (c : Comp) (m : ℕ) (s : State) (xs : List Val) → Funds (tr c s xs).end (limit s) m (tr c s xs) (tr c (richer m s) xs)
+Budgets = (core : Core) (c : Comp) (m : ℕ) (s : State) (xs : List Val) →
+    Funds (means core c s xs).end (limit s) m (means core c s xs) (means core c (richer m s) xs)

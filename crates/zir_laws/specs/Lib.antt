@@ -1,6 +1,9 @@
 pub mod Process
+pub mod Acts
 pub mod Feed
 pub mod Prefixes
 pub mod Budgets
 pub mod Costs
 pub mod Offers
+pub mod Calls
+pub mod Functions

@@ -3,9 +3,10 @@ use Rattle.std.specs.Prelude.{ℕ, ◌+◌, ◌≤◌, List, [], ◌∷◌, ◌+
 use Rattle.zir_tree.specs.declared.value.Val.{Val}
 use Rattle.zir_tree.specs.declared.ends.End.{End}
 use Rattle.zir_tree.specs.declared.ends.End.TheVariants.{Value, Starved, Trap as Trapped, Spent}
-use Rattle.zir_tree.specs.declared.tree.Comp.{Comp}
+use Rattle.zir_tree.specs.declared.comp.Comp.{Comp}
+use Rattle.zir_tree.specs.declared.program.Core.{Core}
 use Rattle.zir_meaning.specs.Trace.{State, Out, Trace}
-use Rattle.zir_meaning.specs.Component.{tr}
+use Rattle.zir_meaning.specs.Instances.{means}
 
 -- none of these outputs stands at fewer ticks
 abbrev pub OutsFrom : ℕ → List Out → Type 0
@@ -36,4 +37,5 @@ Extends Spent taken ys t t' = t' ≡ t
 
 -- a trace that does not starve is the same when more elements follow, and one that starves goes on
 abbrev pub Prefixes : Type 0
-Prefixes = (c : Comp) (s : State) (xs ys : List Val) → Extends (tr c s xs).end (s.taken + length xs) ys (tr c s xs) (tr c s (xs ++ ys))
+Prefixes = (core : Core) (c : Comp) (s : State) (xs ys : List Val) →
+    Extends (means core c s xs).end (s.taken + length xs) ys (means core c s xs) (means core c s (xs ++ ys))

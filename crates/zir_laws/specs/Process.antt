@@ -1,15 +1,21 @@
 -- A component as a process: what it gives, what it needs and how it ends, one event after the other.
-use Rattle.std.specs.Prelude.{ℕ, zero, suc, ◌+◌, List, [], ◌∷◌, Bool, true, false, nat_le, length}
-use Rattle.zir_tree.specs.declared.value.Val.{Val}
-use Rattle.zir_tree.specs.declared.value.Val.TheVariants.{Unit as UnitVal}
+use Rattle.std.specs.Prelude.{ℕ, zero, suc, ◌+◌, ℤ, pos, List, [], ◌∷◌, ◌++◌, Bool, true, false, Option, Some, None, nat_le}
+use Rattle.zir_tree.specs.declared.value.Val.{Val, Unit as UnitVal, List as Vals}
+use Rattle.zir_tree.specs.declared.ident.Ident.{Ident}
 use Rattle.zir_tree.specs.declared.ends.End.{End}
 use Rattle.zir_tree.specs.declared.ends.End.TheVariants.{Value, Starved, Trap as Trapped, Spent}
-use Rattle.zir_tree.specs.declared.tree.Comp.{Comp, Take, Emit, Return, Block', Repeat', Pipe', end_of-Comp, more_of-Comp, Row_of-Member, end_of-Member, more_of-Member}
-use Rattle.zir_tree.specs.declared.tree.Member.{Member}
+use Rattle.zir_tree.specs.declared.expr.Expr.{Expr}
+use Rattle.zir_tree.specs.declared.expr.Callee.TheVariants.{Function}
+use Rattle.zir_tree.specs.declared.comp.Comp.{Comp, Take, Takes, Emit, Emits, Return, Do, Repeat', While', Times', For', If', Map, Filter, Call, Block', Pipe', end_of-Comp, more_of-Comp, Row_of-Member, end_of-Member, more_of-Member}
+use Rattle.zir_tree.specs.declared.comp.Member.{Member, Bind, Var, Run}
+use Rattle.zir_meaning.specs.Values.{parts, is_one, num_of}
+use Rattle.zir_meaning.specs.Store.{depth}
 use Rattle.zir_meaning.specs.Trace.{State, Point, point, Out, Trace, nowhere, ends, gives}
-use Rattle.zir_meaning.specs.Evaluation.{Eval, Got, Traps, RunsOut, ev}
+use Rattle.zir_meaning.specs.Evaluation.{Eval, Got, Traps, RunsOut, Library, ev, called_by}
+use Rattle.zir_meaning.specs.Statements.{bind, leave, turns_of, next_index, initial_of, run_body}
+use Rattle.zir_meaning.specs.Assigned.{assigns}
 use Rattle.zir_meaning.specs.Composition.{limit, over, at_point, fresh}
-use Rattle.zir_meaning.specs.Component.{bind, leave, assigns}
+use Rattle.zir_meaning.specs.Component.{always, test_of, bind_index, Around}
 
 -- an output and what follows, an end, or what follows each element
 pub data Proc : Type 0 where
@@ -50,6 +56,7 @@ abbrev pub tick_proc_of : ℕ → State → (State → Proc) → Proc
 tick_proc_of zero s next = spent_proc
 tick_proc_of (suc left) s next = next (record s { ticks = s.ticks + 1; left = left })
 
+-- one tick, and then what follows
 abbrev pub tick_proc : State → (State → Proc) → Proc
 tick_proc s next = tick_proc_of s.left s next
 
@@ -59,10 +66,59 @@ with_proc (Got v s) next = next v s
 with_proc (Traps t s) next = Ends (Trapped t) s
 with_proc RunsOut next = spent_proc
 
--- a body again and again, each turn after a tick
-abbrev pub turns_proc : ℕ → (State → Proc) → State → Proc
-turns_proc zero body s = spent_proc
-turns_proc (suc more) body s = tick_proc s (λ s'. then_proc (body s') (λ v s''. turns_proc more body s''))
+-- an evaluation of arguments behind these values, and what follows with all of them
+abbrev pub arguments_proc : Library → List Expr → List Val → State → (List Val → State → Proc) → Proc
+arguments_proc l [] vs s next = next vs s
+arguments_proc l (e ∷ es) vs s next = with_proc (ev l e s) (λ v s'. arguments_proc l es (vs ++ v ∷ []) s' next)
+
+-- one element, which costs a tick
+abbrev pub take_proc : State → Proc
+take_proc s = Needs s (λ x. tick_proc s (λ s'. Ends (Value x) (record s' { taken = s'.taken + 1 })))
+
+-- so many more elements behind these, one after the other, as an array
+abbrev pub takes_proc : ℕ → List Val → State → Proc
+takes_proc zero vs s = Ends (Value (Vals vs)) s
+takes_proc (suc n) vs s = then_proc (take_proc s) (λ v s'. takes_proc n (vs ++ v ∷ []) s')
+
+-- these values as outputs, each after a tick
+abbrev pub outputs_proc : List Val → State → Proc
+outputs_proc [] s = Ends (Value UnitVal) s
+outputs_proc (v ∷ vs) s = tick_proc s (λ s'. Gives (record { value = v; at = point s' }) (outputs_proc vs s'))
+
+-- an end with this value after a tick
+abbrev pub returns_proc : Val → State → Proc
+returns_proc v s = tick_proc s (λ s'. Ends (Value v) s')
+
+-- one of two components
+abbrev pub choose_proc : Bool → (State → Proc) → (State → Proc) → State → Proc
+choose_proc true p q s = p s
+choose_proc false p q s = q s
+
+-- a turn where the test holds, and else an end with unit
+abbrev pub turn_if_proc : Eval → (State → Proc) → Proc
+turn_if_proc e turn = with_proc e (λ v s. choose_proc (is_one v) turn (λ s'. Ends (Value UnitVal) s') s)
+
+-- a body again and again while the test holds, each turn after a tick; the ticks left bound the number of turns
+abbrev pub turns_proc : ℕ → (State → Eval) → (State → Proc) → State → Proc
+turns_proc zero test body s = turn_if_proc (test s) (λ s'. spent_proc)
+turns_proc (suc more) test body s =
+    turn_if_proc (test s) (λ s'. tick_proc s' (λ s''. then_proc (body s'') (λ v s3. turns_proc more test body s3)))
+
+-- so many turns, each after a tick and with the next index for the name
+abbrev pub counted_proc : ℕ → Option Ident → ℤ → (State → Proc) → State → Proc
+counted_proc zero name i body s = Ends (Value UnitVal) s
+counted_proc (suc more) name i body s =
+    tick_proc s (λ s'. then_proc (body (bind_index name i s')) (λ v s''. counted_proc more name (next_index i) body (leave (depth s.store) s'')))
+
+-- one element, and the function of it as an output
+abbrev pub mapped_proc : Library → ℕ → State → Proc
+mapped_proc l k s = then_proc (take_proc s) (λ x s'. with_proc (called_by l (Function k) (x ∷ []) s') (λ v s''. outputs_proc (v ∷ []) s''))
+
+-- one element, as an output where the function of it is true, and else nothing after a tick
+abbrev pub filtered_proc : Library → ℕ → State → Proc
+filtered_proc l k s =
+    then_proc (take_proc s) (λ x s'. with_proc (called_by l (Function k) (x ∷ []) s')
+    (λ v s''. choose_proc (is_one v) (outputs_proc (x ∷ [])) (returns_proc UnitVal) s''))
 
 -- an end, a spent one at no place
 abbrev pub end_proc : End → State → Proc
@@ -84,32 +140,58 @@ inside s p next = holds (nat_le p.ticks (limit s)) next
 abbrev pub pull : List ℕ → State → (Val → Point → Proc → Proc) → State → Proc → Proc
 pull ids s next s2 (Gives o left) = next o.value o.at left
 pull ids s next s2 (Ends e s1) = let p = over ids (point s1) (point s2) in inside s p (end_proc e (at_point s p))
-pull ids s next s2 (Needs s1 g) = let p = over ids (point s1) (point s2) in inside s p (Needs (at_point s p) (λ x. pull ids s next s2 (g x)))
+pull ids s next s2 (Needs s1 g) =
+    let p = over ids (point s1) (point s2) in inside s p (Needs (at_point s p) (λ x. pull ids s next s2 (g x)))
 
 -- the right side is asked first; the left side stands at base since its last output, and runs where the right side needs an element
 abbrev pub piped : List ℕ → State → Proc → Point → Proc → Proc
-piped ids s (Gives o right) base left = let p = over ids base o.at in inside s p (Gives (record { value = o.value; at = p }) (piped ids s right base left))
+piped ids s (Gives o right) base left =
+    let p = over ids base o.at in inside s p (Gives (record { value = o.value; at = p }) (piped ids s right base left))
 piped ids s (Ends e s2) base left = let p = over ids base (point s2) in inside s p (end_proc e (at_point s p))
 piped ids s (Needs s2 f) base left = pull ids s (λ v p left'. piped ids s (f v) p left') s2 left
 
+-- what each instance declared before does with the values of its arguments as a process, by its place
+abbrev pub Procs : Type 0
+Procs = ℕ → List Val → State → Proc
+
 abbrev mutual
   -- the process of a component from a state
-  pub proc : Comp → State → Proc
-  proc (Take p) s = Needs s (λ x. tick_proc s (λ s'. Ends (Value x) (record s' { taken = s'.taken + 1 })))
-  proc (Emit e p) s =
-      with_proc (ev e s) (λ v s'. tick_proc s' (λ s''. Gives (record { value = v; at = point s'' }) (Ends (Value UnitVal) s'')))
-  proc (Return e p) s = with_proc (ev e s) (λ v s'. tick_proc s' (λ s''. Ends (Value v) s''))
-  proc (Block' _ ms p) s = members_proc ms (length s.store) UnitVal s
-  proc (Repeat' _ (more_of-Comp c end_of-Comp) p) s = turns_proc s.left (proc c) s
-  proc (Pipe' _ (more_of-Comp a end_of-Comp) _ (more_of-Comp b end_of-Comp) p) s =
-      piped (assigns a) s (proc b (fresh s)) (point s) (proc a s)
+  pub proc : Around → Procs → Comp → State → Proc
+  proc r procs (Take p) s = take_proc s
+  proc r procs (Takes n p) s = takes_proc n [] s
+  proc r procs (Emit e p) s = with_proc (ev r.library e s) (λ v s'. outputs_proc (v ∷ []) s')
+  proc r procs (Emits e p) s = with_proc (ev r.library e s) (λ v s'. outputs_proc (parts v) s')
+  proc r procs (Return e p) s = with_proc (ev r.library e s) (λ v s'. returns_proc v s')
+  proc r procs (Do body p) s = tick_proc s (λ s'. with_proc (run_body r.library body s') (λ v s''. Ends (Value v) s''))
+  proc r procs (Repeat' _ (more_of-Comp c end_of-Comp) p) s = turns_proc s.left always (proc r procs c) s
+  proc r procs (While' turning e _ (more_of-Comp c end_of-Comp) p) s = turns_proc s.left (test_of turning (ev r.library e)) (proc r procs c) s
+  proc r procs (Times' e _ (more_of-Comp c end_of-Comp) p) s =
+      with_proc (ev r.library e s) (λ v s'. counted_proc (turns_of (num_of v)) None (pos 0) (proc r procs c) s')
+  proc r procs (For' name a n _ (more_of-Comp c end_of-Comp) p) s =
+      with_proc (ev r.library a s) (λ v s'. with_proc (ev r.library n s')
+      (λ w s''. counted_proc (turns_of (num_of w)) (Some name) (num_of v) (proc r procs c) s''))
+  proc r procs (If' e _ (more_of-Comp a end_of-Comp) _ (more_of-Comp b end_of-Comp) p) s =
+      with_proc (ev r.library e s) (λ v s'. choose_proc (is_one v) (proc r procs a) (proc r procs b) s')
+  proc r procs (Map f k p) s = turns_proc s.left always (mapped_proc r.library k) s
+  proc r procs (Filter f k p) s = turns_proc s.left always (filtered_proc r.library k) s
+  proc r procs (Call name k es) s = arguments_proc r.library es [] s (λ vs s'. tick_proc s' (λ s''. procs k vs s''))
+  proc r procs (Block' _ ms p) s = members_proc r procs ms (depth s.store) UnitVal s
+  proc r procs (Pipe' link _ (more_of-Comp a end_of-Comp) _ (more_of-Comp b end_of-Comp) p) s =
+      piped (assigns r.assigned a) s (proc r procs b (fresh s)) (point s) (proc r procs a s)
 
-  -- the members of a block, at whose start the store had length n
-  pub members_proc : {m : _} → Row_of-Member m → ℕ → Val → State → Proc
-  members_proc end_of-Member n v s = Ends (Value v) (leave n s)
-  members_proc (more_of-Member name c ms) n v s = then_proc (proc c s) (λ w s'. members_proc ms n w (bind name w s'))
+  -- the members of a block, at whose start so many names were in scope, after a member that ended with v
+  pub members_proc : {m : _} → Around → Procs → Row_of-Member m → ℕ → Val → State → Proc
+  members_proc r procs end_of-Member n v s = Ends (Value v) (leave n s)
+  members_proc r procs (more_of-Member (Bind name c) ms) n v s =
+      then_proc (proc r procs c s) (λ w s'. members_proc r procs ms n w (bind name.id w s'))
+  members_proc r procs (more_of-Member (Var var) ms) n v s =
+      with_proc (initial_of r.library var.ty var.initial s) (λ w s'. members_proc r procs ms n UnitVal (bind var.name.id w s'))
+  members_proc r procs (more_of-Member (Run c) ms) n v s = then_proc (proc r procs c s) (λ w s'. members_proc r procs ms n w s')
 
 -- the same for members in a list
-abbrev pub list_proc : List Member → ℕ → Val → State → Proc
-list_proc [] n v s = Ends (Value v) (leave n s)
-list_proc (m ∷ ms) n v s = then_proc (proc m.what s) (λ w s'. list_proc ms n w (bind m.bound w s'))
+abbrev pub list_proc : Around → Procs → List Member → ℕ → Val → State → Proc
+list_proc r procs [] n v s = Ends (Value v) (leave n s)
+list_proc r procs (Bind name c ∷ ms) n v s = then_proc (proc r procs c s) (λ w s'. list_proc r procs ms n w (bind name.id w s'))
+list_proc r procs (Var var ∷ ms) n v s =
+    with_proc (initial_of r.library var.ty var.initial s) (λ w s'. list_proc r procs ms n UnitVal (bind var.name.id w s'))
+list_proc r procs (Run c ∷ ms) n v s = then_proc (proc r procs c s) (λ w s'. list_proc r procs ms n w s')
