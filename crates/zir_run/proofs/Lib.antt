@@ -1,2 +1,3 @@
+mod Bits
 pub mod Claims
 pub mod Runs

@@ -2,13 +2,13 @@
 use Rattle.std.specs.Prelude.{ℕ, ◌≡◌, ◌⊎◌, refl, List, [], Option, Some}
 use Rattle.std.proofs.Common.{ap, sym, subst, arith, inl, inr}
 use Rattle.std.proofs.lemmas.List.{append-nil, length-map}
-use Rattle.zir_tree.specs.declared.tree.Comp.{Comp}
-use Rattle.zir_tree.specs.declared.tree.Prog.{Prog}
-use Rattle.zir_meaning.specs.Trace.{Trace}
-use Rattle.zir_meaning.specs.Samples.{Ended}
-use Rattle.zir_meaning.specs.Run.{run_end}
-use Rattle.zir_meaning.specs.Answer.{answer_of}
-use Rattle.zir_meaning.specs.Notes.{note_of}
+use Rattle.zir_bit_tree.specs.declared.tree.Comp.{Comp}
+use Rattle.zir_bit_tree.specs.declared.tree.Prog.{Prog}
+use Rattle.zir_bit_meaning.specs.Trace.{Trace}
+use Rattle.zir_bit_meaning.specs.Samples.{Ended}
+use Rattle.zir_bit_meaning.specs.Run.{run_end}
+use Rattle.zir_bits.specs.Answers.{bits_answer}
+use Rattle.zir_bit_meaning.specs.Notes.{note_of}
 use Rattle.zir_outside.specs.Sinks.{Grew, GrewPart}
 use Rattle.zir_steps.specs.History.{History}
 use Rattle.zir_machine.specs.MachineStands.{beginning}
@@ -43,7 +43,7 @@ ran_tells c main stands now left ticks bytes outcome old new same begins told do
     (ran, record { end = ran.end; taken = ran.taken; written = ran.written; value = prepared c main stands left ticks bytes (OwnValue now) same begins told value })
 
 -- the note on the trace of a program is that of its answer
-pub note_same : (ticks : ℕ) (p : Prog) (bytes : List ℕ) → note_over ticks (trace_of p.main ticks bytes) ≡ (answer_of ticks p bytes).notes
+pub note_same : (ticks : ℕ) (p : Prog) (bytes : List ℕ) → note_over ticks (trace_of p.main ticks bytes) ≡ (bits_answer ticks p bytes).notes
 note_same ticks p bytes =
     let t : Trace = trace_of p.main ticks bytes in
     ap (λ n. note_of (run_end Ended t.end) ticks t.last.taken n) (sym (length-map t.outs (λ o. o.value)))
@@ -57,8 +57,8 @@ ended_status k s (inr (inr z)) (inr e) = absurd (omega arith)
 
 -- a run that ended
 pub ran_ends : (k ticks : ℕ) (p : Prog) (bytes : List ℕ) (old new notes_old notes_new : List ℕ → Type 0) → IsEnded k →
-    (k ≡ status_over (trace_of p.main ticks bytes)) ⊎ (k ≡ 8) → Grew old new (answer_of ticks p bytes).out → Grew notes_old notes_new (note_over ticks (trace_of p.main ticks bytes)) →
-    EndsAs k (answer_of ticks p bytes) old new notes_old notes_new
+    (k ≡ status_over (trace_of p.main ticks bytes)) ⊎ (k ≡ 8) → Grew old new (bits_answer ticks p bytes).out → Grew notes_old notes_new (note_over ticks (trace_of p.main ticks bytes)) →
+    EndsAs k (bits_answer ticks p bytes) old new notes_old notes_new
 ran_ends k ticks p bytes old new notes_old notes_new ended told out notes = record {
   status_is = ended_status k (status_over (trace_of p.main ticks bytes)) ended told;
   out = out;
@@ -66,6 +66,6 @@ ran_ends k ticks p bytes old new notes_old notes_new ended told out notes = reco
 }
 
 -- the status of a run is that of its trace, or tells of a failed put
-pub ran_told : (k ticks : ℕ) (p : Prog) (bytes : List ℕ) → (k ≡ status_over (trace_of p.main ticks bytes)) ⊎ (k ≡ 8) → IsTold k (answer_of ticks p bytes)
+pub ran_told : (k ticks : ℕ) (p : Prog) (bytes : List ℕ) → (k ≡ status_over (trace_of p.main ticks bytes)) ⊎ (k ≡ 8) → IsTold k (bits_answer ticks p bytes)
 ran_told k ticks p bytes (inl e) = inl e
 ran_told k ticks p bytes (inr e) = inr (inr (inr (inl e)))

@@ -1,11 +1,12 @@
 -- What the top call claims: its status, and what became of the output and the notes, by the words, the texts and the input.
-use Rattle.std.specs.Prelude.{ℕ, ◌≡◌, ◌⊎◌, List, Option, Some}
-use Rattle.zir_tree.specs.declared.tree.Prog.{Prog}
+use Rattle.std.specs.Prelude.{ℕ, ◌≡◌, ◌⊎◌, List, [], Option, Some}
+use Rattle.zir_tree.specs.declared.format.Format.TheVariants.{Binary}
+use Rattle.zir_tree.specs.declared.program.Core.{Core}
 use Rattle.zir_meaning.specs.Answer.{Answer, answer_of}
 use Rattle.zir_outside.specs.Loads.{Texts, IsAbsent}
 use Rattle.zir_outside.specs.Sinks.{Grew}
 use Rattle.zir_words.specs.Words.{IsRun}
-use Rattle.zir_front.specs.Program.{IsProgram}
+use Rattle.zir_run.specs.Cores.{IsCore}
 
 -- the words are of no form
 abbrev pub AreBad : List (List ℕ) → Type 0
@@ -25,18 +26,18 @@ pub record Asks (words : List (List ℕ)) (told : Texts) (n : ℕ) (text : List 
 
 -- the text is too long or no program
 abbrev pub IsRefused : List ℕ → Type 0
-IsRefused text = (program : Prog) → IsProgram text program → ⊥
+IsRefused text = (core : Core) → IsCore text core → ⊥
 
--- the definition answers so: for the ticks and the text that the words ask for, over all bytes that the input has left
+-- the definition answers so: for the ticks and the text that the words ask for, in the binary format over all bytes that the input has left
 pub record Means (words : List (List ℕ)) (told : Texts) (left : Option (List ℕ)) (a : Answer) : Type 0 where
   pub ticks : ℕ
   pub text : List ℕ
-  pub program : Prog
+  pub core : Core
   pub input : List ℕ
   pub asks : Asks words told ticks text
-  pub runs : IsProgram text program
+  pub runs : IsCore text core
   pub has : left ≡ Some input
-  pub is : a ≡ answer_of ticks program input
+  pub is : a ≡ answer_of Binary ticks (record { name = asks.name; core = core }) [] input
 
 -- a run that ended with this status: it is the definition's, and the output and the notes grew by exactly the definition's bytes
 pub record EndsAs (status : ℕ) (a : Answer) (old new notes_old notes_new : List ℕ → Type 0) : Type 0 where

@@ -1,3 +1,4 @@
+pub mod Cores
 pub mod Claim
 pub mod Loading
 pub mod Reports

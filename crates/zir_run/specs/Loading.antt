@@ -1,6 +1,6 @@
 -- What the load of a program answers, and the statuses that tell of it.
 use Rattle.std.specs.Prelude.{ℕ, ◌≡◌, ⊤, List, Option, Some, Result, Ok, Err}
-use Rattle.zir_tree.specs.declared.tree.Prog.{Prog}
+use Rattle.zir_bit_tree.specs.declared.tree.Prog.{Prog}
 use Rattle.zir_outside.specs.Loads.{Texts}
 use Rattle.zir_front.specs.Program.{IsProgram}
 use Rattle.zir_run.specs.declared.load.Refusal.{Refusal}

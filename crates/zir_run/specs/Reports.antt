@@ -1,11 +1,11 @@
 -- What the report on a run says, in the terms of its trace.
 use Rattle.std.specs.Prelude.{ℕ, ◌≡◌, List, Option, Some, None, length}
 use Rattle.zir_tree.specs.declared.ends.Trap.{Trap}
-use Rattle.zir_meaning.specs.Trace.{Trace}
-use Rattle.zir_meaning.specs.Samples.{Ended}
-use Rattle.zir_meaning.specs.Run.{RunEnd, ByTrap, run_end}
-use Rattle.zir_meaning.specs.Answer.{status_of}
-use Rattle.zir_meaning.specs.Notes.{note_of}
+use Rattle.zir_bit_meaning.specs.Trace.{Trace}
+use Rattle.zir_bit_meaning.specs.Samples.{Ended}
+use Rattle.zir_bit_meaning.specs.Run.{RunEnd, ByTrap, run_end}
+use Rattle.zir_bit_meaning.specs.Answer.{status_of}
+use Rattle.zir_bit_meaning.specs.Notes.{note_of}
 use Rattle.zir_notes.specs.declared.Ending.{Ending}
 use Rattle.zir_notes.specs.Endings.{run_end_of}
 use Rattle.zir_steps.specs.History.{History}

@@ -13,6 +13,7 @@ mod run;
 use load::load;
 use run::run;
 use std::alloc::Global;
+use zir_bits::same_answers;
 use zir_outside::{Gate, Shelf, Sink, Source};
 use zir_words::{ask_once, read_words};
 
@@ -64,6 +65,7 @@ pub fn ziria<H: Shelf, S: Source + Send, K: Sink + Send, N: Sink, G: Gate + Sync
         return BAD_WORDS;
     };
     ask_once();
+    same_answers();
     match load(alloc, asked.name, shelf) {
         Ok(program) => run(alloc, &program, asked.ticks, input, out, notes),
         Err(refusal) => refusal.status(),

@@ -6,9 +6,9 @@ ghost use Rattle.zir_outside.specs.Loads.{IsAbsent};
 ghost use Rattle.zir_run.specs.Loading.{Has, Reads, refusal_status};
 
 use std::alloc::Global;
+use zir_bit_tree::tree::Prog;
 use zir_front::{FrontError, read_program};
 use zir_outside::{LoadError, Shelf};
-use zir_tree::tree::Prog;
 
 /// Why there is no program to run.
 #[derive(Clone, Copy, Debug, PartialEq, Eq)]

@@ -1,12 +1,13 @@
 // The run of a program, and the note on how it ended.
 
 ghost use Rattle.std.specs.Prelude.{ℕ, List, ◌≡◌, ◌≤◌, ◌^◌, ◌⊎◌, ◌↔◌, Some, None, IfOk};
+ghost use Rattle.zir_bits.specs.Answers.{bits_answer};
 ghost use Rattle.zir_drive.specs.Runs.{TellsEnd, OwnValue};
 ghost use Rattle.zir_machine.specs.MachineStands.{beginning};
-ghost use Rattle.zir_meaning.specs.Answer.{answer_of, status_of as status_of_end};
-ghost use Rattle.zir_meaning.specs.Run.{run_end};
-ghost use Rattle.zir_meaning.specs.Samples.{Ended as RunEnded};
-ghost use Rattle.zir_meaning.specs.Trace.{Trace};
+ghost use Rattle.zir_bit_meaning.specs.Answer.{status_of as status_of_end};
+ghost use Rattle.zir_bit_meaning.specs.Run.{run_end};
+ghost use Rattle.zir_bit_meaning.specs.Samples.{Ended as RunEnded};
+ghost use Rattle.zir_bit_meaning.specs.Trace.{Trace};
 ghost use Rattle.zir_notes.specs.Endings.{run_end_of};
 ghost use Rattle.zir_outside.specs.Causes.{Rose};
 ghost use Rattle.zir_outside.specs.Sinks.{Grew, GrewPart};
@@ -15,12 +16,12 @@ ghost use Rattle.zir_run.specs.Reports.{TellsRun, IsNoteOf, status_over, note_ov
 ghost use Rattle.zir_steps.specs.declared.answer.Answer.TheVariants.{Done};
 
 use std::alloc::{AllocError, Global};
+use zir_bit_tree::tree::{Comp, Prog};
 use zir_drive::{DriveError, Ended, Outcome, drive};
 use zir_machine::machine::Machine;
 use zir_notes::{Ending, write_end};
 use zir_outside::{Failed, Sink, Source};
 use zir_steps::worker::Worker;
-use zir_tree::tree::{Comp, Prog};
 
 /// The status of a run that ended with its value or its input.
 const ENDED: u8 = 0;
@@ -46,11 +47,11 @@ pub fn run<S: Source, K: Sink, N: Sink>(
     notes: &mut N,
 ) -> u8
     requires { ticks ≤ 2 ^ 48 }
-    ensures ended { (bytes : List ℕ) → S.left input.old ≡ Some bytes → IsEnded result → EndsAs result (answer_of ticks program.now bytes) (K.stands_for out.old) (K.stands_for out.new) (N.stands_for notes.old) (N.stands_for notes.new) }
-    ensures prefix { (bytes : List ℕ) → S.left input.old ≡ Some bytes → IsBroken result → GrewPart (answer_of ticks program.now bytes).out (K.stands_for out.old) (K.stands_for out.new) }
-    ensures whole { (bytes : List ℕ) → S.left input.old ≡ Some bytes → result ≡ 8 → Rose (K.faults out.old) (K.faults out.new) ⊎ Grew (K.stands_for out.old) (K.stands_for out.new) (answer_of ticks program.now bytes).out }
-    ensures note_prefix { (bytes : List ℕ) → S.left input.old ≡ Some bytes → result ≡ 8 → GrewPart (answer_of ticks program.now bytes).notes (N.stands_for notes.old) (N.stands_for notes.new) }
-    ensures told { (bytes : List ℕ) → S.left input.old ≡ Some bytes → IsTold result (answer_of ticks program.now bytes) }
+    ensures ended { (bytes : List ℕ) → S.left input.old ≡ Some bytes → IsEnded result → EndsAs result (bits_answer ticks program.now bytes) (K.stands_for out.old) (K.stands_for out.new) (N.stands_for notes.old) (N.stands_for notes.new) }
+    ensures prefix { (bytes : List ℕ) → S.left input.old ≡ Some bytes → IsBroken result → GrewPart (bits_answer ticks program.now bytes).out (K.stands_for out.old) (K.stands_for out.new) }
+    ensures whole { (bytes : List ℕ) → S.left input.old ≡ Some bytes → result ≡ 8 → Rose (K.faults out.old) (K.faults out.new) ⊎ Grew (K.stands_for out.old) (K.stands_for out.new) (bits_answer ticks program.now bytes).out }
+    ensures note_prefix { (bytes : List ℕ) → S.left input.old ≡ Some bytes → result ≡ 8 → GrewPart (bits_answer ticks program.now bytes).notes (N.stands_for notes.old) (N.stands_for notes.new) }
+    ensures told { (bytes : List ℕ) → S.left input.old ≡ Some bytes → IsTold result (bits_answer ticks program.now bytes) }
     ensures statuses { IsEnded result ⊎ IsBroken result }
     ensures read_fault { result ≡ 7 → Rose (S.faults input.old) (S.faults input.new) }
     ensures write_fault { result ≡ 8 → Rose (K.faults out.old) (K.faults out.new) ⊎ Rose (N.faults notes.old) (N.faults notes.new) }

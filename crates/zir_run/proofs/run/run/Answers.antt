@@ -1,5 +1,5 @@
 use Rattle.std.proofs.Common.{inr, subst}
-use Rattle.zir_meaning.specs.Answer.{answer_of}
+use Rattle.zir_bits.specs.Answers.{bits_answer}
 use Rattle.zir_outside.specs.Sinks.{GrewPart}
 use Rattle.zir_machine.specs.MachineOf.{standing_of}
 use Rattle.zir_machine.specs.MachineStands.{Stands}
@@ -9,7 +9,7 @@ use Rattle.zir_run.proofs.Runs.{untouched_part, whole_part, prepared, ran_tells,
 use Rattle.zir_run.proofs.run.run.Goals as goal
 
 pub returns-in_default-clause-prefix : goal.returns-in_default-clause-prefix
-returns-in_default-clause-prefix g c bytes told broken = untouched_part (answer_of c.args.ticks c.args.program.now bytes).out (g.K.Sink.stands_for c.args.out.now)
+returns-in_default-clause-prefix g c bytes told broken = untouched_part (bits_answer c.args.ticks c.args.program.now bytes).out (g.K.Sink.stands_for c.args.out.now)
 
 pub returns-in-Ok-drive-clause-ended : goal.returns-in-Ok-drive-clause-ended
 returns-in-Ok-drive-clause-ended g c bytes left ended =
@@ -22,7 +22,7 @@ pub returns-in-Ok-drive-clause-prefix : goal.returns-in-Ok-drive-clause-prefix
 returns-in-Ok-drive-clause-prefix g c bytes left broken =
     let both = ran_tells (comp_of c.in-Ok.machine.node) c.args.program.now.main (Stands (standing_of c.in-Ok.machine)) (Stands (standing_of c.drive.new.worker)) (g.S.Source.left c.args.input.now) c.args.ticks bytes c.in-Ok-drive.outcome (g.K.Sink.stands_for c.args.out.now) (g.K.Sink.stands_for c.drive.new.out)
     c.in-Ok.ensures.component c.in-Ok.ensures.stands left c.in-Ok-drive.ensures.done c.in-Ok-drive.ensures.value in
-    whole_part (answer_of c.args.ticks c.args.program.now bytes).out (g.K.Sink.stands_for c.args.out.now) (g.K.Sink.stands_for c.drive.new.out) both.0.out
+    whole_part (bits_answer c.args.ticks c.args.program.now bytes).out (g.K.Sink.stands_for c.args.out.now) (g.K.Sink.stands_for c.drive.new.out) both.0.out
 
 pub returns-in-Ok-drive-clause-whole : goal.returns-in-Ok-drive-clause-whole
 returns-in-Ok-drive-clause-whole g c bytes left fault =

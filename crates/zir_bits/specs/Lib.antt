@@ -1,0 +1,4 @@
+pub mod Wide
+pub mod Traces
+pub mod Bits
+pub mod Answers
