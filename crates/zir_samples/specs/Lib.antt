@@ -1,3 +1,4 @@
-pub mod Laws
-pub mod Reading
+pub mod Finding
+pub mod Output
 pub mod Writing
+pub mod Reading

@@ -1,54 +1,51 @@
--- What a reader keeps, and what a call of it gives.
-use Rattle.std.specs.Prelude.{ℕ, ◌≡◌, Bool, true, false, if◌then◌else◌, List, [], ◌∷◌, ◌++◌, Option, Some, None, Result, Ok, Err}
-use Rattle.zir_meaning.specs.Samples.{bits_of}
-use Rattle.zir_outside.specs.declared.Failed.{Failed}
+-- What is read at the front of a text.
+use Rattle.std.specs.Prelude.{ℕ, ◌-◌, ◌^◌, ◌≤◌, ◌≡◌, ℤ, Bool, if◌then◌else◌, Option, Some, None, min, option_map, List, [], ◌∷◌, length, take, drop, reverse, nat_eq, false, slice_index, ◌<◌}
+use Rattle.zir_tree.specs.declared.types.Base.{Base}
+use Rattle.zir_tree.specs.declared.types.Base.TheVariants.{Bit}
+use Rattle.zir_meaning.specs.Items.{Item, fits, width}
+use Rattle.zir_meaning.specs.Texts.{cut_at_commas, cut_items, digits_number, skip_blanks}
+use Rattle.zir_samples.specs.declared.text.Front.{Front}
+use Rattle.zir_samples.specs.declared.text.Front.TheVariants.{Item as FrontItem, Nothing, Malformed}
 
--- the bytes that were read and not given yet, whether the input has ended, and whether a read failed
-pub record KeptBytes : Type 0 where
-  pub bytes : List ℕ
-  pub ended : Bool
-  pub failed : Bool
+-- a number, where its type has it
+abbrev pub in_range : Base → Option ℤ → Option ℤ
+in_range base None = None
+in_range base (Some z) = if fits base z then Some z else None
 
--- the bits that were read and not given yet, whether the input has ended, and whether a read failed
-pub record KeptBits : Type 0 where
-  pub bits : List Bool
-  pub ended : Bool
-  pub failed : Bool
+-- how many numbers from 0 on a type has
+abbrev pub limit_of : Base → ℕ
+limit_of Bit = 2
+limit_of base = 2 ^ (width base - 1)
 
--- nothing was read
-abbrev pub no_bytes : KeptBytes
-no_bytes = record { bytes = []; ended = false; failed = false }
+-- the number that decimal digits write, or the greatest of 64 bits where that is less
+abbrev pub magnitude_of : List ℕ → Option ℕ
+magnitude_of digits = option_map (λ n. min n (2 ^ 64 - 1)) (digits_number digits)
 
--- nothing was read
-abbrev pub no_bits : KeptBits
-no_bits = record { bits = []; ended = false; failed = false }
+-- bytes without the white space behind them
+abbrev pub without_blanks_behind : List ℕ → List ℕ
+without_blanks_behind bytes = reverse (skip_blanks (reverse bytes))
 
--- the bytes still to be given, where the source has these left
-abbrev pub bytes_to_come : KeptBytes → List ℕ → List ℕ
-bytes_to_come kept left = kept.bytes ++ (if kept.ended then [] else left)
+-- the items of a text in order, and None where one is malformed
+abbrev pub items_of : Base → Bool → List ℕ → List (Option Item)
+items_of base closed bytes = cut_items base closed (cut_at_commas bytes)
 
--- the bits still to be given, where the source has these bytes left
-abbrev pub bits_to_come : KeptBits → List ℕ → List Bool
-bits_to_come kept left = kept.bits ++ (if kept.ended then [] else bits_of left)
+-- the first item of a text, or that it has none, or that the first is malformed
+abbrev pub Reads : Base → Bool → List ℕ → Front → Type 0
+Reads base closed bytes (FrontItem z size) = (size ≤ length bytes) × (size ≤ 64) × (items_of base closed bytes ≡ Some (record { number = z; size = size }) ∷ items_of base closed (drop size bytes))
+Reads base closed bytes Nothing = items_of base closed bytes ≡ []
+Reads base closed bytes Malformed = (more : List (Option Item)) × (items_of base closed bytes ≡ None ∷ more)
 
--- the first of what was to come was given, and None exactly where nothing was to come; a failure loses nothing
-abbrev pub Gives : {T : Type 0} → List T → List T → Result (Option T) Failed → Type 0
-Gives before now (Ok (Some x)) = before ≡ x ∷ now
-Gives before now (Ok None) = (before ≡ []) × (now ≡ [])
-Gives before now (Err e) = now ≡ before
+-- what stands at the front of a text where an item of so many bytes has this number, or none
+abbrev pub front_of : Option ℤ → ℕ → Front
+front_of None size = Malformed
+front_of (Some z) size = FrontItem z size
 
--- what a call gives, where the source tells what it has left; a source that does not tell goes on so
-abbrev pub GivesByte : KeptBytes → Option (List ℕ) → KeptBytes → Option (List ℕ) → Result (Option ℕ) Failed → Type 0
-GivesByte old None new left result = left ≡ None
-GivesByte old (Some bytes) new left result = (rest : List ℕ) × (left ≡ Some rest) × Gives (bytes_to_come old bytes) (bytes_to_come new rest) result
+-- no byte is a comma
+abbrev pub IsUncut : List ℕ → Type 0
+IsUncut [] = Unit {0}
+IsUncut (b ∷ bytes) = (nat_eq b 44 ≡ false) × IsUncut bytes
 
--- what a call gives, where the source tells what it has left; a source that does not tell goes on so
-abbrev pub GivesBit : KeptBits → Option (List ℕ) → KeptBits → Option (List ℕ) → Result (Option Bool) Failed → Type 0
-GivesBit old None new left result = left ≡ None
-GivesBit old (Some bytes) new left result = (rest : List ℕ) × (left ≡ Some rest) × Gives (bits_to_come old bytes) (bits_to_come new rest) result
-
--- the answer says that the input has ended
-abbrev pub is_end : {T : Type 0} → Result (Option T) Failed → Bool
-is_end (Ok (Some x)) = false
-is_end (Ok None) = true
-is_end (Err e) = false
+-- the place of the first comma, or none
+abbrev pub IsFirstComma : List ℕ → Option ℕ → Type 0
+IsFirstComma bytes None = IsUncut bytes
+IsFirstComma bytes (Some at) = (at < length bytes) × (slice_index bytes at ≡ 44) × IsUncut (take at bytes)

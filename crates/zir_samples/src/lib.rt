@@ -1,18 +1,15 @@
-//! The binary format of bits: eight bits to a byte, the first the least significant, without gaps.
-//! `BitReader` takes bits out of a source and `BitWriter` puts them into a sink, both in pieces of 4,096 bytes.
+//! The sample formats: an element is found at the front of bytes, and elements are written into a sink, both in the binary
+//! format and as text. Elements are cells here: an i64 for each number, the real part of a complex number first.
 #![tactic(auto)]
 
 mod bits;
-mod bytes;
-mod laws;
+mod finding;
+mod output;
+mod text;
 mod writer;
 
-pub use bits::BitReader;
-pub use laws::{spells_bytes, spells_front};
-pub use writer::BitWriter;
-
-/// The bytes of a piece, which is what one call of a source or a sink moves at most.
-pub const PIECE: usize = 4096;
+pub use finding::{Found, find};
+pub use writer::Writer;
 
 #[cfg(test)]
 mod tests;

@@ -1,141 +1,191 @@
-//! Bits put into a sink.
+//! Elements that are written into a sink.
 
-ghost use Rattle.std.specs.Prelude.{suc, ◌≡◌, ◌<◌, ◌≤◌, ◌^◌, ◌++◌, ◌∷◌, [], true, false, length, IfOk, OnOk, OnErr, vec_capacity};
-ghost use Rattle.zir_meaning.specs.Samples.{low_bits, spell_bits};
+ghost use Rattle.std.specs.Prelude.{◌≡◌, ◌<◌, ◌%◌, ◌++◌, ◌∷◌, [], true, false, if◌then◌else◌, codes, length, All, IfOk, IsTrue, OnOk, OnErr};
+ghost use Rattle.zir_tree.specs.declared.format.Format.TheVariants.{Binary, Text};
+ghost use Rattle.zir_tree.specs.declared.types.Base.TheVariants.{Unit};
+ghost use Rattle.zir_meaning.specs.Items.{fits, width as width_of};
+ghost use Rattle.zir_meaning.specs.Samples.{bits_at, bits_of, spell_bits};
 ghost use Rattle.zir_outside.specs.Causes.{HasCause};
 ghost use Rattle.zir_outside.specs.Sinks.{Grew, GrewPart, Tells};
-ghost use Rattle.zir_samples.specs.Writing.{Puts};
+ghost use Rattle.zir_samples.specs.Finding.{IsStreamType};
+ghost use Rattle.zir_samples.specs.Output.{Puts};
+ghost use Rattle.zir_samples.specs.Writing.{added, IsWhole, nothing_kept, PutsPart, PutsRest, Wrote};
 
-use crate::PIECE;
+use crate::bits::{width, without_sign};
+use crate::output::Output;
+use itoa::Buffer;
 use std::alloc::{AllocError, Global};
 use std::marker::Model;
 use zir_outside::{Failed, Sink};
+use zir_tree::format::Format;
+use zir_tree::types::{Base, Ty};
 
-/// Writes bits, eight to a byte, the first the least significant. It puts a piece as soon as it has 4,096 bytes.
-/// `push` is called once for each bit of a run.
+/// Writes elements of a type. It puts a piece as soon as it has 4,096 bytes. After a call has answered `Failed`, and after
+/// `finish` or `flush_whole`, no other call comes.
 #[derive(Debug, Drop)]
-pub struct BitWriter {
-    piece: Vec<u8>,
-    byte: u8,
-    count: u8,
+pub struct Writer {
+    format: Format,
+    base: Base,
+    output: Output,
+    some: bool,
 }
 
-// Clauses see the bits that were pushed and not put yet.
-impl Model for BitWriter {
-    ghost use Rattle.std.specs.Prelude.{List, Bool};
-    ghost use Rattle.zir_samples.specs.Writing.{pending, IsWritten};
+impl Model for Writer {
+    ghost use Rattle.std.specs.Prelude.{◌<◌};
+    ghost use Rattle.zir_meaning.specs.Items.{width};
+    ghost use Rattle.zir_samples.specs.Writing.{IsWhole, Kept};
 
-    ghost Value = { List Bool };
+    ghost Value = { Kept };
 
-    ghost view = { λ w. pending w.piece.items w.count w.byte };
+    ghost view = { λ w. record { format = w.format; base = w.base; bits = w.output; some = w.some } };
 
-    ghost use Rattle.std.specs.Prelude.{◌≤◌, vec_capacity};
-
-    ghost invariant = { λ w. (IsWritten w.piece.items w.count w.byte) × (4096 ≤ vec_capacity w.piece) };
+    ghost invariant = { λ w. (IsWhole w.format w.base w.output) × (0 < width w.base) };
 }
 
-impl BitWriter {
-    /// Takes memory for 4,096 bytes. No other call takes memory.
-    pub fn open(alloc: Global) -> Result<BitWriter, AllocError>
-        ensures { IfOk result (λ writer. writer ≡ []) }
+impl Writer {
+    /// Takes memory for a piece. No other call takes memory.
+    pub fn open(alloc: Global, format: Format, ty: &Ty) -> Result<Writer, AllocError>
+        requires stream { IsStreamType ty.now }
+        ensures { IfOk result (λ writer. writer ≡ nothing_kept format ty.now.base) }
     {
-        Ok(BitWriter {
-            piece: Vec::with_capacity(alloc, PIECE)?,
-            byte: 0,
-            count: 0,
+        Ok(Writer {
+            format,
+            base: ty.base,
+            output: Output::open(alloc)?,
+            some: false,
         })
     }
 
-    /// Writes a bit. After `Failed` the writer holds nothing.
-    pub fn push<K: Sink>(&mut self, bit: bool, sink: &mut K) -> Result<(), Failed>
-        ensures ok { OnOk result (Puts K.stands_for sink.old sink.new (self.old ++ bit ∷ []) self.new) }
-        ensures failed { OnErr result (GrewPart (spell_bits false (self.old ++ bit ∷ [])) (K.stands_for sink.old) (K.stands_for sink.new)) }
-        ensures spent { OnErr result (self.new ≡ []) }
-        ensures within { length self.new < 32768 }
+    /// Writes an element, whose cells are in the range of their type.
+    pub fn push<K: Sink>(&mut self, element: &[i64], sink: &mut K) -> Result<(), Failed>
+        requires cells { All (λ z. IsTrue (fits self.old.base z)) element.now }
+        ensures ok { OnOk result (Wrote K.stands_for sink.old sink.new self.old self.new element.now) }
+        ensures failed { OnErr result (PutsPart K.stands_for sink.old sink.new self.old element.now false) }
         ensures untold { Tells (K.stands_for sink.new) → Tells (K.stands_for sink.old) }
         ensures cause { HasCause (K.faults sink.old) (K.faults sink.new) result }
     {
-        let byte = with_bit(self.byte, self.count, bit);
-        if self.count < 7 {
-            self.byte = byte;
-            self.count += 1;
-            return Ok(());
+        for number in element {
+            self.push_number(*number, sink)?;
         }
-        self.piece.push(byte).unwrap();
-        self.byte = 0;
-        self.count = 0;
-        if self.piece.len() < PIECE {
-            return Ok(());
-        }
-        put_piece(&mut self.piece, sink)
+        Ok(())
     }
 
-    /// Writes what is left, the last byte padded with zero bits. Afterwards the writer holds nothing.
+    /// Writes what ends the output: the padding of the last byte or the last newline, and the last piece.
     pub fn finish<K: Sink>(&mut self, sink: &mut K) -> Result<(), Failed>
-        ensures ok { OnOk result (Grew (K.stands_for sink.old) (K.stands_for sink.new) (spell_bits true self.old)) }
-        ensures failed { OnErr result (GrewPart (spell_bits true self.old) (K.stands_for sink.old) (K.stands_for sink.new)) }
-        ensures spent { self.new ≡ [] }
-        ensures nothing { spell_bits true self.old ≡ [] → sink.new ≡ sink.old }
+        ensures ok { OnOk result (PutsRest K.stands_for sink.old sink.new self.old [] true) }
+        ensures failed { OnErr result (PutsPart K.stands_for sink.old sink.new self.old [] true) }
         ensures untold { Tells (K.stands_for sink.new) → Tells (K.stands_for sink.old) }
         ensures cause { HasCause (K.faults sink.old) (K.faults sink.new) result }
     {
-        self.put_rest(true, sink)
-    }
-
-    /// Writes the whole bytes of what is left, and drops the bits behind them. Afterwards the writer holds nothing.
-    pub fn flush_whole<K: Sink>(&mut self, sink: &mut K) -> Result<(), Failed>
-        ensures ok { OnOk result (Grew (K.stands_for sink.old) (K.stands_for sink.new) (spell_bits false self.old)) }
-        ensures failed { OnErr result (GrewPart (spell_bits false self.old) (K.stands_for sink.old) (K.stands_for sink.new)) }
-        ensures spent { self.new ≡ [] }
-        ensures nothing { spell_bits false self.old ≡ [] → sink.new ≡ sink.old }
-        ensures untold { Tells (K.stands_for sink.new) → Tells (K.stands_for sink.old) }
-        ensures cause { HasCause (K.faults sink.old) (K.faults sink.new) result }
-    {
-        self.put_rest(false, sink)
-    }
-
-    // Puts what is left, with a last byte that is not whole only where it is padded.
-    fn put_rest<K: Sink>(&mut self, padded: bool, sink: &mut K) -> Result<(), Failed>
-        ensures ok { OnOk result (Grew (K.stands_for sink.old) (K.stands_for sink.new) (spell_bits padded self.old)) }
-        ensures failed { OnErr result (GrewPart (spell_bits padded self.old) (K.stands_for sink.old) (K.stands_for sink.new)) }
-        ensures spent { self.new ≡ [] }
-        ensures nothing { spell_bits padded self.old ≡ [] → sink.new ≡ sink.old }
-        ensures untold { Tells (K.stands_for sink.new) → Tells (K.stands_for sink.old) }
-        ensures cause { HasCause (K.faults sink.old) (K.faults sink.new) result }
-    {
-        if padded && self.count > 0 {
-            self.piece.push(self.byte).unwrap();
+        match self.format {
+            Format::Binary => self.output.put_rest(true, sink),
+            Format::Text => finish_text(&mut self.output, self.some, sink),
         }
-        self.byte = 0;
-        self.count = 0;
-        put_piece(&mut self.piece, sink)
+    }
+
+    /// Writes the whole bytes of what was pushed, without what ends the output.
+    pub fn flush_whole<K: Sink>(&mut self, sink: &mut K) -> Result<(), Failed>
+        ensures ok { OnOk result (PutsRest K.stands_for sink.old sink.new self.old [] false) }
+        ensures failed { OnErr result (PutsPart K.stands_for sink.old sink.new self.old [] false) }
+        ensures untold { Tells (K.stands_for sink.new) → Tells (K.stands_for sink.old) }
+        ensures cause { HasCause (K.faults sink.old) (K.faults sink.new) result }
+    {
+        self.output.put_rest(false, sink)
+    }
+
+    // Adds a number.
+    fn push_number<K: Sink>(&mut self, number: i64, sink: &mut K) -> Result<(), Failed>
+        requires fits { IsTrue (fits self.old.base number) }
+        ensures ok { OnOk result (Puts K.stands_for sink.old sink.new (self.old.bits ++ added self.old.format self.old.base self.old.some number) self.new.bits) }
+        ensures failed { OnErr result (GrewPart (spell_bits false (self.old.bits ++ added self.old.format self.old.base self.old.some number)) (K.stands_for sink.old) (K.stands_for sink.new)) }
+        ensures format { self.new.format ≡ self.old.format }
+        ensures base { self.new.base ≡ self.old.base }
+        ensures some { self.new.some ≡ true }
+        ensures untold { Tells (K.stands_for sink.new) → Tells (K.stands_for sink.old) }
+        ensures cause { HasCause (K.faults sink.old) (K.faults sink.new) result }
+    {
+        let some = self.some;
+        self.some = true;
+        match self.format {
+            Format::Binary => push_binary(&mut self.output, self.base, number, sink),
+            Format::Text => push_text(&mut self.output, some, number, sink),
+        }
     }
 }
 
-// A byte with a bit above its lowest ones.
-fn with_bit(byte: u8, count: u8, bit: bool) -> u8
-    requires few { count ≤ 7 }
-    requires low { byte < 2 ^ count }
-    ensures bits { low_bits (suc count) result ≡ low_bits count byte ++ bit ∷ [] }
-    ensures low { result < 2 ^ suc count }
-{
-    byte + (u8::from(bit) << count)
-}
-
-// Puts a piece, unless it is empty, and empties it.
-fn put_piece<K: Sink>(piece: &mut Vec<u8>, sink: &mut K) -> Result<(), Failed>
-    ensures ok { OnOk result (Grew (K.stands_for sink.old) (K.stands_for sink.new) piece.old.items) }
-    ensures failed { OnErr result (GrewPart piece.old.items (K.stands_for sink.old) (K.stands_for sink.new)) }
-    ensures empty { piece.new.items ≡ [] }
-    ensures room { vec_capacity piece.new ≡ vec_capacity piece.old }
-    ensures nothing { piece.old.items ≡ [] → sink.new ≡ sink.old }
+// Adds a number of a type in the binary format.
+fn push_binary<K: Sink>(
+    output: &mut Output,
+    base: Base,
+    number: i64,
+    sink: &mut K,
+) -> Result<(), Failed>
+    requires fits { IsTrue (fits base number) }
+    requires stream { 0 < width_of base }
+    requires whole { IsWhole Binary base output.old }
+    ensures ok { OnOk result (Puts K.stands_for sink.old sink.new (output.old ++ bits_at base number) output.new) }
+    ensures failed { OnErr result (GrewPart (spell_bits false (output.old ++ bits_at base number)) (K.stands_for sink.old) (K.stands_for sink.new)) }
+    ensures whole { IsWhole Binary base output.new }
     ensures untold { Tells (K.stands_for sink.new) → Tells (K.stands_for sink.old) }
     ensures cause { HasCause (K.faults sink.old) (K.faults sink.new) result }
 {
-    if piece.is_empty() {
-        return Ok(());
+    match base {
+        Base::Bit => output.push_bit(number == 1, sink),
+        _ => {
+            let width = width(base);
+            output.push_number(without_sign(width, number), width / 8, sink)
+        }
     }
-    let put = sink.put(piece);
-    piece.clear();
-    put
+}
+
+// Adds a number to a text, behind a comma where there are some before it.
+fn push_text<K: Sink>(
+    output: &mut Output,
+    some: bool,
+    number: i64,
+    sink: &mut K,
+) -> Result<(), Failed>
+    requires whole { length output.old % 8 ≡ 0 }
+    ensures ok { OnOk result (Puts K.stands_for sink.old sink.new (output.old ++ added Text Unit some number) output.new) }
+    ensures failed { OnErr result (GrewPart (spell_bits false (output.old ++ added Text Unit some number)) (K.stands_for sink.old) (K.stands_for sink.new)) }
+    ensures whole { length output.new % 8 ≡ 0 }
+    ensures untold { Tells (K.stands_for sink.new) → Tells (K.stands_for sink.old) }
+    ensures cause { HasCause (K.faults sink.old) (K.faults sink.new) result }
+{
+    push_mark(output, some, b',', sink)?;
+    output.push_bytes(Buffer::new().format(number).as_bytes(), sink)
+}
+
+// Puts what a text keeps, with a newline behind it where there are numbers.
+fn finish_text<K: Sink>(output: &mut Output, some: bool, sink: &mut K) -> Result<(), Failed>
+    requires whole { length output.old % 8 ≡ 0 }
+    ensures ok { OnOk result (Grew (K.stands_for sink.old) (K.stands_for sink.new) (spell_bits true (output.old ++ bits_of (if some then codes "\n" else [])))) }
+    ensures failed { OnErr result (GrewPart (spell_bits true (output.old ++ bits_of (if some then codes "\n" else []))) (K.stands_for sink.old) (K.stands_for sink.new)) }
+    ensures whole { length output.new % 8 ≡ 0 }
+    ensures untold { Tells (K.stands_for sink.new) → Tells (K.stands_for sink.old) }
+    ensures cause { HasCause (K.faults sink.old) (K.faults sink.new) result }
+{
+    push_mark(output, some, b'\n', sink)?;
+    output.put_rest(true, sink)
+}
+
+// Adds a byte to a text where it is wanted.
+fn push_mark<K: Sink>(
+    output: &mut Output,
+    wanted: bool,
+    mark: u8,
+    sink: &mut K,
+) -> Result<(), Failed>
+    requires whole { length output.old % 8 ≡ 0 }
+    ensures ok { OnOk result (Puts K.stands_for sink.old sink.new (output.old ++ bits_of (if wanted then mark ∷ [] else [])) output.new) }
+    ensures failed { OnErr result (GrewPart (spell_bits false (output.old ++ bits_of (if wanted then mark ∷ [] else []))) (K.stands_for sink.old) (K.stands_for sink.new)) }
+    ensures whole { length output.new % 8 ≡ 0 }
+    ensures untold { Tells (K.stands_for sink.new) → Tells (K.stands_for sink.old) }
+    ensures cause { HasCause (K.faults sink.old) (K.faults sink.new) result }
+{
+    if wanted {
+        output.push_byte(mark, sink)
+    } else {
+        Ok(())
+    }
 }

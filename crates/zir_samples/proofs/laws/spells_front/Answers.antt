@@ -1,5 +1,0 @@
-use Rattle.zir_samples.proofs.Spelling.{spell-front}
-use Rattle.zir_samples.proofs.laws.spells_front.Goals as goal
-
-pub returns : goal.returns
-returns c = spell-front
