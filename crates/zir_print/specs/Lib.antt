@@ -1,0 +1,9 @@
+pub mod Marks
+pub mod Types
+pub mod Expressions
+pub mod Statements
+pub mod Components
+pub mod Canonical
+pub mod Text
+pub mod Laws
+pub mod Rows
