@@ -1,0 +1,7 @@
+pub mod Fine
+pub mod Agreement
+pub mod Operands
+pub mod Sound
+pub mod Places
+pub mod Told
+pub mod Equations
