@@ -1,0 +1,11 @@
+# Completion of ziria for bash.
+_ziria() {
+    local word=${COMP_WORDS[COMP_CWORD]}
+    case $COMP_CWORD in
+        1) COMPREPLY=($(compgen -W "run" -- "$word")) ;;
+        2) COMPREPLY=($(compgen -W "--ticks" -- "$word")) ;;
+        3) COMPREPLY=() ;;
+        4) COMPREPLY=($(compgen -f -X '!*.zir' -- "$word") $(compgen -d -- "$word")) ;;
+    esac
+}
+complete -o filenames -F _ziria ziria
