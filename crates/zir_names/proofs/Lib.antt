@@ -1,0 +1,6 @@
+pub mod Told
+pub mod Lists
+pub mod ExpressionEquations
+pub mod StatementEquations
+pub mod ComponentEquations
+pub mod Declarations
