@@ -19,7 +19,7 @@ use Rattle.zir_tree.specs.declared.comp.Member as member
 use Rattle.zir_lex.specs.declared.token.Token.{Token}
 use Rattle.zir_lex.specs.declared.token.Keyword.TheVariants as keyword
 use Rattle.zir_lex.specs.declared.token.Symbol.TheVariants as symbol
-use Rattle.zir_parse.specs.Grammar.{word, sign, name, ident, link_symbol, link_rank, IsVar, IsAtom, take_atom, takes_atom, emit_atom, emits_atom, return_atom, do_atom, repeat_atom, hinted_atom, while_atom, until_atom, times_atom, for_atom, if_atom, map_atom, filter_atom, call_atom, block_atom, enclosed_atom, IsChain, atom, links, IsLinks, no_link, join, IsBlock, block, IsMembers, binds, member_var, member_runs, last_member, last_stopped}
+use Rattle.zir_grammar.specs.Grammar.{word, sign, name, ident, link_symbol, link_rank, IsVar, IsAtom, take_atom, takes_atom, emit_atom, emits_atom, return_atom, do_atom, repeat_atom, hinted_atom, while_atom, until_atom, times_atom, for_atom, if_atom, map_atom, filter_atom, call_atom, block_atom, enclosed_atom, IsChain, atom, links, IsLinks, no_link, join, IsBlock, block, IsMembers, binds, member_var, member_runs, last_member, last_stopped}
 use Rattle.zir_print.specs.Marks.{mark, link_word, parted, enclosed, braced, held}
 use Rattle.zir_print.specs.Expressions.{expr_words, called_words}
 use Rattle.zir_print.specs.Statements.{bounds_words, body_words}

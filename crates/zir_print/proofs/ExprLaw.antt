@@ -18,7 +18,7 @@ use Rattle.zir_tree.specs.declared.expr.Expr.TheBlock.{shape-the_row-Expr-0, hid
 use Rattle.zir_lex.specs.declared.token.Token.{Token}
 use Rattle.zir_lex.specs.declared.token.Symbol.{Symbol}
 use Rattle.zir_lex.specs.declared.token.Symbol.TheVariants as symbol
-use Rattle.zir_parse.specs.Grammar.{word, sign, name, ident, conversion_of, symbol_of, rank, ranks, prefix_token, IsExpr, IsBinary, unary, operands, IsOperands, no_operand, operand, IsUnary, prefixed, primary, IsPosts, no_post, index, slice, part, IsPrimary, number, bit_value, true_value, false_value, unit_value, variable, call, enclosed as enclosed_expr, array, convert, complex, IsArgs, no_args, args, IsMoreExprs, last_expr, more_exprs}
+use Rattle.zir_grammar.specs.Grammar.{word, sign, name, ident, conversion_of, symbol_of, rank, ranks, prefix_token, IsExpr, IsBinary, unary, operands, IsOperands, no_operand, operand, IsUnary, prefixed, primary, IsPosts, no_post, index, slice, part, IsPrimary, number, bit_value, true_value, false_value, unit_value, variable, call, enclosed as enclosed_expr, array, convert, complex, IsArgs, no_args, args, IsMoreExprs, last_expr, more_exprs}
 use Rattle.zir_print.specs.Marks.{nowhere, mark, parted, behind_each, enclosed, braced, held}
 use Rattle.zir_print.specs.Types.{keyword_of, word_if}
 use Rattle.zir_print.specs.Expressions.{kind, bracket_end, bracket_words, call_words, called_words, expr_words, each_expr}

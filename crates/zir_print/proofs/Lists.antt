@@ -3,7 +3,7 @@ use Rattle.std.proofs.Common.{◌≡◌, ℕ, max, ◌≤◌, List, [], ◌∷�
 use Rattle.zir_lex.specs.declared.token.Token.{Token}
 use Rattle.zir_print.specs.Marks.{enclosed, braced, mark}
 use Rattle.zir_lex.specs.declared.token.Symbol.TheVariants as symbol
-use Rattle.zir_parse.specs.Grammar.{sign}
+use Rattle.zir_grammar.specs.Grammar.{sign}
 use Rattle.zir_tree.specs.declared.place.Place.{Place}
 
 -- what stands before any rest with a height of its own, that is no higher than this

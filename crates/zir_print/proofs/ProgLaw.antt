@@ -15,8 +15,8 @@ use Rattle.zir_lex.specs.declared.token.Keyword.{Keyword}
 use Rattle.zir_lex.specs.declared.token.Keyword.TheVariants as keyword
 use Rattle.zir_lex.specs.declared.token.Symbol.{Symbol}
 use Rattle.zir_lex.specs.declared.token.Symbol.TheVariants as symbol
-use Rattle.zir_parse.specs.Grammar.{word, name, ident, main_bytes, IsMoreFields, last_field, more_fields, IsParams, no_params, params, IsResult, no_result, result, IsDecl, declares_var, declares_struct, declares_function, declares_comp, IsDecls, no_decl, more_decls, IsProg, program}
-use Rattle.zir_parse.specs.Claim.{IsLowProg}
+use Rattle.zir_grammar.specs.Grammar.{word, name, ident, main_bytes, IsMoreFields, last_field, more_fields, IsParams, no_params, params, IsResult, no_result, result, IsDecl, declares_var, declares_struct, declares_function, declares_comp, IsDecls, no_decl, more_decls, IsProg, program}
+use Rattle.zir_grammar.specs.Claim.{IsLowProg}
 use Rattle.zir_print.specs.Marks.{nowhere, mark, link_word, parted, enclosed}
 use Rattle.zir_print.specs.Types.{type_words, field_words}
 use Rattle.zir_print.specs.Statements.{var_words, body_words}

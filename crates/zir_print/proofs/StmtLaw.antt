@@ -17,7 +17,7 @@ use Rattle.zir_tree.specs.declared.stmt.Body.{Body}
 use Rattle.zir_lex.specs.declared.token.Token.{Token}
 use Rattle.zir_lex.specs.declared.token.Keyword.TheVariants as keyword
 use Rattle.zir_lex.specs.declared.token.Symbol.TheVariants as symbol
-use Rattle.zir_parse.specs.Grammar.{word, sign, name, ident, plain_var, set_var, result_body, IsExpr, IsField, IsVar, var_alone, var_set, IsBounds, bounds, IsTarget, target, target_index, target_slice, target_part, IsStmt, declares, assigns, calls, errors, tests, chooses, turns, counts, IsStmts, stmts, IsMoreStmts, no_stmt, last_stmt, more_stmts, IsMoreBody, no_more, ends, goes_on, returns, returns_stopped, IsBody, body}
+use Rattle.zir_grammar.specs.Grammar.{word, sign, name, ident, plain_var, set_var, result_body, IsExpr, IsField, IsVar, var_alone, var_set, IsBounds, bounds, IsTarget, target, target_index, target_slice, target_part, IsStmt, declares, assigns, calls, errors, tests, chooses, turns, counts, IsStmts, stmts, IsMoreStmts, no_stmt, last_stmt, more_stmts, IsMoreBody, no_more, ends, goes_on, returns, returns_stopped, IsBody, body}
 use Rattle.zir_print.specs.Marks.{nowhere, mark, link_word, parted, enclosed}
 use Rattle.zir_print.specs.Types.{ident_word, type_words, field_words}
 use Rattle.zir_print.specs.Expressions.{bracket_end, expr_words, called_words}

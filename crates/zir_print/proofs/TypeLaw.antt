@@ -11,7 +11,7 @@ use Rattle.zir_lex.specs.declared.token.Token.{Token}
 use Rattle.zir_lex.specs.declared.token.Keyword.{Keyword}
 use Rattle.zir_lex.specs.declared.token.Keyword.TheVariants as keyword
 use Rattle.zir_lex.specs.declared.token.Symbol.{Symbol}
-use Rattle.zir_parse.specs.Grammar.{base_of, conversion_of, plain_type, IsType, type_word, type_name, type_array, IsField, typed_name, IsMoreFields, last_field, more_fields}
+use Rattle.zir_grammar.specs.Grammar.{base_of, conversion_of, plain_type, IsType, type_word, type_name, type_array, IsField, typed_name, IsMoreFields, last_field, more_fields}
 use Rattle.zir_print.specs.Marks.{mark, parted, behind_each}
 use Rattle.zir_print.specs.Types.{keyword_of, word_if, dimension_words, inner_words, type_words, field_words}
 

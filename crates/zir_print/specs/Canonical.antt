@@ -12,7 +12,7 @@ use Rattle.zir_lex.specs.declared.token.Token.{Token}
 use Rattle.zir_lex.specs.declared.token.Keyword.{Keyword}
 use Rattle.zir_lex.specs.declared.token.Keyword.TheVariants as keyword
 use Rattle.zir_lex.specs.declared.token.Symbol.TheVariants as symbol
-use Rattle.zir_parse.specs.Grammar.{word, name, main_bytes}
+use Rattle.zir_grammar.specs.Grammar.{word, name, main_bytes}
 use Rattle.zir_print.specs.Marks.{nowhere, mark, link_word, parted, enclosed}
 use Rattle.zir_print.specs.Types.{ident_word, field_words, type_words}
 use Rattle.zir_print.specs.Statements.{list_words, var_words, body_words}

@@ -8,7 +8,7 @@ use Rattle.zir_lex.specs.declared.token.Token.{Token}
 use Rattle.zir_lex.specs.declared.token.Keyword.{Keyword}
 use Rattle.zir_lex.specs.declared.token.Keyword.TheVariants as keyword
 use Rattle.zir_lex.specs.declared.token.Symbol.TheVariants as symbol
-use Rattle.zir_parse.specs.Grammar.{word, sign, int, link_symbol, link_rank}
+use Rattle.zir_grammar.specs.Grammar.{word, sign, int, link_symbol, link_rank}
 use Rattle.zir_print.specs.Marks.{nowhere, mark, link_word, parted, enclosed, braced, held}
 use Rattle.zir_print.specs.Types.{ident_word}
 use Rattle.zir_print.specs.Expressions.{expr_words, called_words}

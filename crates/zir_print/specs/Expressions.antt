@@ -6,7 +6,7 @@ use Rattle.zir_tree.specs.declared.expr.Expr.{Expr, Unit, Bit, Bool as Truth, In
 use Rattle.zir_lex.specs.declared.token.Token.{Token}
 use Rattle.zir_lex.specs.declared.token.Keyword.TheVariants as keyword
 use Rattle.zir_lex.specs.declared.token.Symbol.TheVariants as symbol
-use Rattle.zir_parse.specs.Grammar.{word, sign, name, int, bit, symbol_of, rank, prefix_token}
+use Rattle.zir_grammar.specs.Grammar.{word, sign, name, int, bit, symbol_of, rank, prefix_token}
 use Rattle.zir_print.specs.Marks.{nowhere, mark, parted, enclosed, braced, held}
 use Rattle.zir_print.specs.Types.{keyword_of, word_if, ident_word}
 

@@ -2,7 +2,7 @@
 use Rattle.std.specs.Prelude.{ℕ, List}
 use Rattle.zir_tree.specs.declared.program.Prog.{Prog}
 use Rattle.zir_lex.specs.declared.token.Token.{Token}
-use Rattle.zir_parse.specs.Claim.{IsLowProg}
+use Rattle.zir_grammar.specs.Claim.{IsLowProg}
 use Rattle.zir_print.specs.Canonical.{canonical}
 
 -- whatever tokens spell a program, the canonical ones spell it too, at no greater height

@@ -5,7 +5,7 @@ use Rattle.zir_lex.specs.declared.token.Token.{Token}
 use Rattle.zir_lex.specs.declared.token.Keyword.{Keyword}
 use Rattle.zir_lex.specs.declared.token.Symbol.{Symbol}
 use Rattle.zir_lex.specs.declared.token.Symbol.TheVariants.{LeftParenthesis, RightParenthesis, LeftBrace, RightBrace}
-use Rattle.zir_parse.specs.Grammar.{word, sign}
+use Rattle.zir_grammar.specs.Grammar.{word, sign}
 
 -- the place of a token that a tree keeps no place of
 abbrev pub nowhere : Place

@@ -19,7 +19,7 @@ use Rattle.zir_tree.specs.declared.comp.Comp.TheBlock.{shape-the_row-Member-1, h
 use Rattle.zir_tree.specs.declared.comp.Member as member
 use Rattle.zir_tree.specs.declared.program.Decl.TheVariants as decl
 use Rattle.zir_tree.specs.declared.program.Prog.{Prog}
-use Rattle.zir_parse.specs.Grammar.{ident, plain_type, field, result_body}
+use Rattle.zir_grammar.specs.Grammar.{ident, plain_type, field, result_body}
 use Rattle.zir_print.specs.Expressions.{expr_words}
 use Rattle.zir_print.specs.Components.{comp_words}
 use Rattle.zir_print.specs.Text.{spaced, canonical_text}

@@ -11,7 +11,7 @@ use Rattle.zir_tree.specs.declared.stmt.Body.{Body}
 use Rattle.zir_lex.specs.declared.token.Token.{Token}
 use Rattle.zir_lex.specs.declared.token.Keyword.TheVariants as keyword
 use Rattle.zir_lex.specs.declared.token.Symbol.TheVariants as symbol
-use Rattle.zir_parse.specs.Grammar.{word, sign, name, text}
+use Rattle.zir_grammar.specs.Grammar.{word, sign, name, text}
 use Rattle.zir_print.specs.Marks.{nowhere, mark, link_word, parted, enclosed, braced}
 use Rattle.zir_print.specs.Types.{ident_word, type_words}
 use Rattle.zir_print.specs.Expressions.{bracket_words, expr_words, called_words}

@@ -11,7 +11,7 @@ use Rattle.zir_lex.specs.declared.token.Token.{Token}
 use Rattle.zir_lex.specs.declared.token.Keyword.{Keyword}
 use Rattle.zir_lex.specs.declared.token.Keyword.TheVariants as keyword
 use Rattle.zir_lex.specs.declared.token.Symbol.TheVariants as symbol
-use Rattle.zir_parse.specs.Grammar.{word, name, int}
+use Rattle.zir_grammar.specs.Grammar.{word, name, int}
 use Rattle.zir_print.specs.Marks.{nowhere, mark}
 
 -- the keyword that names a type, if one does

@@ -1,5 +1,0 @@
-use Rattle.zir_parse.proofs.Law as law
-use Rattle.zir_parse.proofs.laws.one_answer.Goals as goal
-
-pub returns : goal.returns
-returns c most tokens a b ta tb x y = law.one_answer most tokens a b ta tb x y

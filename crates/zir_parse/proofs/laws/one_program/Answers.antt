@@ -1,5 +1,0 @@
-use Rattle.zir_parse.proofs.Law as law
-use Rattle.zir_parse.proofs.laws.one_program.Goals as goal
-
-pub returns : goal.returns
-returns c tokens p q a b x y = law.one_program tokens p q a b x y

@@ -1,9 +1,0 @@
-use Rattle.zir_parse.specs.Wants.{a_word}
-use Rattle.zir_parse.proofs.Descent.{wanted, unwanted}
-use Rattle.zir_parse.proofs.wanted.want_keyword.Goals as goal
-
-pub returns-in-Some-clause-read : goal.returns-in-Some-clause-read
-returns-in-Some-clause-read c most r low = wanted most (a_word c.args.wanted) (λ at. r) c.args.tokens.now _ _ c.in-Some.ensures.found low
-
-pub returns-in-None-clause-read : goal.returns-in-None-clause-read
-returns-in-None-clause-read c most r low = unwanted most (a_word c.args.wanted) (λ at. r) c.args.tokens.now c.in-None.ensures.found
