@@ -1,5 +1,5 @@
 -- Expressions as they are read.
-use Rattle.std.proofs.Common.{◌≡◌, ◌≤◌, ◌<◌, ◌-◌, ℕ, suc, max, nat_le, true, false, List, [], ◌∷◌, ◌++◌, length, Option, Some, None, Err, refl, sym, ap, ◌∙◌, arith}
+use Rattle.std.proofs.Common.{◌≡◌, ◌≤◌, ◌<◌, ℕ, suc, max, List, [], ◌∷◌, ◌++◌, length, Option, Some, None, Err, refl, sym, ap, ◌∙◌, arith}
 use Rattle.zir_tree.specs.declared.place.Place.{Place}
 use Rattle.zir_tree.specs.declared.types.Base.{Base}
 use Rattle.zir_tree.specs.declared.types.Base.TheVariants as base
@@ -12,35 +12,15 @@ use Rattle.zir_tree.specs.declared.program.Prog.{Prog}
 use Rattle.zir_lex.specs.declared.token.Token.{Token}
 use Rattle.zir_lex.specs.declared.token.Keyword.{Keyword}
 use Rattle.zir_lex.specs.declared.token.Keyword.TheVariants as keyword
-use Rattle.zir_lex.specs.declared.token.Symbol.{Symbol}
 use Rattle.zir_lex.specs.declared.token.Symbol.TheVariants as symbol
 use Rattle.zir_grammar.specs.declared.error.ParseError.TheVariants as errors
 use Rattle.zir_grammar.specs.declared.enclosure.Enclosure.{Enclosure}
 use Rattle.zir_grammar.specs.declared.enclosure.Enclosure.TheVariants.{Parentheses as parentheses, Braces as braces}
 use Rattle.zir_grammar.specs.Enclosures.{closing_of}
-use Rattle.zir_grammar.specs.Grammar.{word, sign, ident, ranks, conversion_of, prefix_token}
-use Rattle.zir_grammar.specs.Wants.{a_word, a_sign, a_name, a_number, a_bit, a_conversion, a_prefix, token_of, told, if_found}
-use Rattle.zir_grammar.specs.Parts.{
-  Rest,
-  gives,
-  wants,
-  either,
-  reads,
-  follow,
-  entries,
-  lead,
-  done_with,
-  known,
-  wants_sign,
-  a_binary,
-  posts_of,
-  behind_parenthesis,
-  behind_name,
-  some_args,
-  more_exprs,
-  conversion_rest,
-}
-use Rattle.zir_grammar.specs.Machine.{least, found, run}
+use Rattle.zir_grammar.specs.Grammar.{word, ident, ranks, conversion_of, prefix_token}
+use Rattle.zir_grammar.specs.Wants.{a_word, a_sign, a_name, a_number, a_bit, a_conversion, a_prefix, told, if_found}
+use Rattle.zir_grammar.specs.Parts.{Rest, gives, wants, either, reads, follow, entries, done_with, known, wants_sign, a_binary, posts_of, behind_parenthesis, behind_name, some_args, more_exprs, conversion_rest}
+use Rattle.zir_grammar.specs.Machine.{found, run}
 use Rattle.zir_grammar.specs.Reading.{at_front, conversion_front, HasRoom}
 use Rattle.zir_grammar.proofs.Tokens.{told_is}
 use Rattle.zir_grammar.proofs.Descent.{taken, deep, refused, left_out, led, told_found, fits, too_high}

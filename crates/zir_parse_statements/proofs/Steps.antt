@@ -1,15 +1,13 @@
 -- The steps of functions that read parts, at the front of the tokens, and the room behind them.
-use Rattle.std.proofs.Common.{◌≡◌, ◌≤◌, ◌<◌, ◌-◌, ℕ, suc, max, nat_le, Bool, true, false, List, [], ◌∷◌, length, Option, Some, None, Err, refl, sym, ap, subst, ◌∙◌, arith, if◌then◌else◌}
+use Rattle.std.proofs.Common.{◌≡◌, ◌≤◌, ◌<◌, ◌-◌, ℕ, suc, max, nat_le, true, false, List, [], ◌∷◌, length, Option, Some, None, Err, refl, sym, ap, subst, ◌∙◌, arith, if◌then◌else◌}
 use Rattle.zir_lex.specs.declared.token.Token.{Token}
 use Rattle.zir_tree.specs.declared.program.Prog.{Prog}
 use Rattle.zir_grammar.specs.declared.error.ParseError.TheVariants as errors
-use Rattle.zir_grammar.specs.declared.stop.Stop.{Stop}
-use Rattle.zir_grammar.specs.declared.stop.Stop.TheVariants.{Memory}
 use Rattle.zir_grammar.specs.Wants.{Want, Payload, token_of, told, if_found}
-use Rattle.zir_grammar.specs.Parts.{Part, Tree, Rest, wants, either, reads, follow, Entry, lead, entries, may_be_empty}
+use Rattle.zir_grammar.specs.Parts.{Part, Tree, Rest, wants, either, reads, follow, entries, may_be_empty}
 use Rattle.zir_grammar.specs.Machine.{lowest_tree, lowest, least, found, step, finish, run}
 use Rattle.zir_grammar.specs.Reading.{at_front, HasRoom}
-use Rattle.zir_grammar.proofs.Descent.{front_is, front_none, Next, run_next, told_found, taken, deep, led, by_token, same_test}
+use Rattle.zir_grammar.proofs.Descent.{front_is, front_none, Next, run_next, told_found, taken, deep, by_token, same_test}
 use Rattle.zir_grammar.proofs.Tables.{not_first}
 
 -- ---- tokens

@@ -1,5 +1,5 @@
 -- Statements as they are read.
-use Rattle.std.proofs.Common.{◌≡◌, ◌≤◌, ◌<◌, ◌-◌, ℕ, suc, max, nat_le, true, false, List, [], ◌∷◌, ◌++◌, length, Option, Some, None, Err, refl, sym, ap, ◌∙◌, arith}
+use Rattle.std.proofs.Common.{◌≡◌, ◌≤◌, ◌<◌, ◌-◌, ℕ, suc, max, List, [], ◌∷◌, ◌++◌, length, Option, Some, None, Err, refl, ap, ◌∙◌, arith}
 use Rattle.zir_tree.specs.declared.place.Place.{Place}
 use Rattle.zir_tree.specs.declared.ident.Ident.{Ident}
 use Rattle.zir_tree.specs.declared.types.Field.{Field}
@@ -15,33 +15,10 @@ use Rattle.zir_lex.specs.declared.token.Token.{Token}
 use Rattle.zir_lex.specs.declared.token.Keyword.TheVariants as keyword
 use Rattle.zir_lex.specs.declared.token.Symbol.TheVariants as symbol
 use Rattle.zir_grammar.specs.declared.error.ParseError.TheVariants as errors
-use Rattle.zir_grammar.specs.Grammar.{ident, ranks, plain_var, set_var, plain_body, result_body}
+use Rattle.zir_grammar.specs.Grammar.{ident, plain_var, set_var, plain_body, result_body}
 use Rattle.zir_grammar.specs.Wants.{a_word, a_sign, a_name}
-use Rattle.zir_grammar.specs.Parts.{
-  Rest,
-  gives,
-  wants,
-  either,
-  reads,
-  done_with,
-  wants_sign,
-  wants_word,
-  a_binary,
-  some_args,
-  a_stmt,
-  stmt_named,
-  target_of,
-  else_of,
-  some_bounds,
-  some_stmts,
-  more_stmts,
-  a_body,
-  more_body,
-  initial_of,
-  stmt_end,
-  body_end,
-}
-use Rattle.zir_grammar.specs.Machine.{least, run}
+use Rattle.zir_grammar.specs.Parts.{Rest, gives, wants, either, reads, done_with, wants_sign, wants_word, some_args, a_stmt, stmt_named, target_of, else_of, some_bounds, some_stmts, more_stmts, a_body, more_body, initial_of, stmt_end, body_end}
+use Rattle.zir_grammar.specs.Machine.{run}
 use Rattle.zir_grammar.specs.Reading.{at_front, HasRoom}
 use Rattle.zir_grammar.proofs.Descent.{refused, left_out, led, fits, too_high}
 use Rattle.zir_parse_statements.specs.Parsers.{

@@ -1,5 +1,5 @@
 -- What the functions that read expressions and statements say.
-use Rattle.std.specs.Prelude.{◌≡◌, ℕ, suc, max, pos, Bool, true, false, List, [], ◌∷◌, ◌++◌, Option, Some, None, Result}
+use Rattle.std.specs.Prelude.{◌≡◌, ℕ, suc, max, pos, Bool, true, false, List, [], ◌∷◌, Option, Some, None, Result}
 use Rattle.zir_tree.specs.declared.place.Place.{Place}
 use Rattle.zir_tree.specs.declared.types.Base.{Base}
 use Rattle.zir_tree.specs.declared.types.Base.TheVariants as base
@@ -18,7 +18,7 @@ use Rattle.zir_lex.specs.declared.token.Symbol.TheVariants as symbol
 use Rattle.zir_grammar.specs.declared.enclosure.Enclosure.{Enclosure}
 use Rattle.zir_grammar.specs.declared.stop.Stop.{Stop}
 use Rattle.zir_grammar.specs.Grammar.{ranks}
-use Rattle.zir_grammar.specs.Wants.{a_word, a_sign, a_name, a_number, a_bit, a_text}
+use Rattle.zir_grammar.specs.Wants.{a_word, a_sign, a_number, a_bit, a_text}
 use Rattle.zir_grammar.specs.Parts.{Rest, wants, either, reads, a_binary, posts_of, more_exprs, a_field, initial_of, some_bounds, some_stmts, else_of, wants_sign, wants_word}
 use Rattle.zir_grammar.specs.Machine.{run}
 use Rattle.zir_grammar.specs.Reading.{at_front, Leads, HasRoom}

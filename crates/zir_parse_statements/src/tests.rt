@@ -7,7 +7,7 @@ use std::test::*;
 use zir_grammar::stop::Stop;
 use zir_lex::lexer::lex;
 
-fn height(alloc: Global, room: usize, text: &[u8]) -> Result<usize, Stop> {
+fn expression_height(alloc: Global, room: usize, text: &[u8]) -> Result<usize, Stop> {
     let Ok(tokens) = lex(alloc, text) else {
         return Err(Stop::Memory);
     };
@@ -30,14 +30,20 @@ fn body_height(alloc: Global, text: &[u8]) -> Result<usize, Stop> {
 }
 
 #[test]
-fn heights(rt: HostRuntime) -> Result<(), Fail> {
+fn rows(rt: HostRuntime) -> Result<(), Fail> {
     let alloc = rt.alloc();
-    assert_eq!(rt; height(alloc, 64, b"1 + 2 * 3"), Ok(3));
-    assert_eq!(rt; height(alloc, 64, b"(1 + 2) * 3"), Ok(4));
-    assert_eq!(rt; height(alloc, 3, b"(1 + 2) * 3"), Err(Stop::TooDeep(2)));
-    assert_eq!(rt; height(alloc, 64, b"f(a, {'0, '1})"), Ok(3));
-    assert_eq!(rt; height(alloc, 64, b"- x[1].re"), Ok(4));
-    assert_eq!(rt; height(alloc, 64, b"complex16(1, 2"), Err(Stop::Syntax(0)));
+    assert_eq!(rt; expression_height(alloc, 64, b"1 + 2 * 3"), Ok(3));
+    assert_eq!(rt; expression_height(alloc, 64, b"(1 + 2) * 3"), Ok(4));
+    assert_eq!(rt;
+        expression_height(alloc, 3, b"(1 + 2) * 3"),
+        Err(Stop::TooDeep(2))
+    );
+    assert_eq!(rt; expression_height(alloc, 64, b"f(a, {'0, '1})"), Ok(3));
+    assert_eq!(rt; expression_height(alloc, 64, b"- x[1].re"), Ok(4));
+    assert_eq!(rt;
+        expression_height(alloc, 64, b"complex16(1, 2"),
+        Err(Stop::Syntax(0))
+    );
     assert_eq!(rt;
         body_height(alloc, b"{ var x : int := 1; x[0] := 2; return x }"),
         Ok(4)

@@ -1,7 +1,6 @@
-use Rattle.std.proofs.Common.{rules, ◌≡◌, ◌≤◌, ◌<◌, ◌+◌, ◌-◌, ℕ, suc, max, List, [], ◌∷◌, ◌++◌, Some, ap, sym, refl, ◌∙◌, arith}
+use Rattle.std.proofs.Common.{rules, ◌≡◌, ◌≤◌, ◌<◌, ◌+◌, ◌-◌, ℕ, suc, max, [], ◌∷◌, Some, ap, refl, ◌∙◌, arith}
 use Rattle.std.proofs.lemmas.Result.{err_from_is_err_and}
 use Rattle.zir_tree.specs.declared.expr.Expr as expr
-use Rattle.zir_tree.specs.declared.types.Base.TheVariants as base
 use Rattle.zir_lex.specs.declared.token.Symbol.TheVariants as symbol
 use Rattle.zir_grammar.specs.Wants.{a_number}
 use Rattle.zir_grammar.specs.Parts.{reads, wants, wants_sign, a_binary, operands_of, more_exprs, posts_of}

@@ -1,12 +1,10 @@
-use Rattle.std.proofs.Common.{rules, ◌≡◌, ◌≤◌, ◌<◌, ◌+◌, ◌-◌, ℕ, suc, max, [], ◌∷◌, ◌++◌, refl, sym, ap, ◌∙◌, arith}
+use Rattle.std.proofs.Common.{rules, ◌≡◌, ◌≤◌, ◌<◌, ◌+◌, suc, max, [], ◌∷◌, ◌++◌, ◌∙◌, arith}
 use Rattle.std.proofs.lemmas.Result.{err_from_is_err_and}
 use Rattle.zir_tree.specs.declared.stmt.Stmt as stmt
-use Rattle.zir_lex.specs.declared.token.Symbol.TheVariants as symbol
-use Rattle.zir_lex.specs.declared.token.Keyword.TheVariants as keyword
-use Rattle.zir_grammar.specs.Parts.{reads, wants_sign, wants_word, some_stmts, more_stmts, else_of}
+use Rattle.zir_grammar.specs.Parts.{reads, some_stmts, more_stmts}
 use Rattle.zir_grammar.specs.Machine.{run}
 use Rattle.zir_grammar.proofs.Descent.{stop_leads, leads_on, fits}
-use Rattle.zir_parse_statements.proofs.Steps.{raised, room_inside, room_beside, room_before}
+use Rattle.zir_parse_statements.proofs.Steps.{raised, room_beside, room_before}
 use Rattle.zir_parse_statements.proofs.StmtParts.{
   var_fits,
   var_deep,

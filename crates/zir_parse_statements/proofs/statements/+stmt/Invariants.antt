@@ -1,4 +1,4 @@
-use Rattle.std.proofs.Common.{◌≡◌, ◌≤◌, ◌<◌, ℕ, suc, List, [], ◌∷◌, length, ◌+◌, ◌-◌, ◌*◌}
+use Rattle.std.proofs.Common.{◌≡◌, ◌<◌, ℕ, suc, List, length, ◌+◌, ◌*◌}
 use Rattle.zir_tree.specs.declared.stmt.Stmt.{Stmt}
 use Rattle.zir_tree.specs.declared.program.Prog.{Prog}
 use Rattle.zir_grammar.specs.Parts.{Rest, reads, some_stmts, more_stmts}

@@ -1,9 +1,7 @@
-use Rattle.std.proofs.Common.{rules, ◌≡◌, ◌≤◌, ◌<◌, ◌+◌, suc, max, [], ◌∷◌, ◌++◌, sym, ap, refl, ◌∙◌, arith}
+use Rattle.std.proofs.Common.{rules, ◌≡◌, ◌≤◌, ◌+◌, suc, max, [], ◌∷◌, ◌++◌, sym, ap, ◌∙◌, arith}
 use Rattle.std.proofs.lemmas.Result.{err_from_is_err_and}
-use Rattle.zir_tree.specs.declared.stmt.Access.TheVariants as access
 use Rattle.zir_grammar.specs.Machine.{run}
 use Rattle.zir_grammar.proofs.Descent.{stop_leads, leads_on, fits}
-use Rattle.zir_parse_statements.specs.Parsers.{step_by}
 use Rattle.zir_parse_statements.proofs.Steps.{room_beside}
 use Rattle.zir_parse_statements.proofs.StmtParts.{target_ends, target_deep, step_of, bracket_fits, bracket_deep, part_of, dot_fits, dot_deep, no_target, same_target}
 use Rattle.zir_parse_statements.proofs.statements.+target.Goals as goal

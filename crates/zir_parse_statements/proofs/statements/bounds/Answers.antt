@@ -1,7 +1,6 @@
 use Rattle.std.proofs.Common.{◌∙◌, ap, sym, arith}
 use Rattle.std.proofs.lemmas.Result.{err_from_is_err_and}
 use Rattle.zir_lex.specs.declared.token.Symbol.TheVariants as symbol
-use Rattle.zir_grammar.specs.Grammar.{ident}
 use Rattle.zir_grammar.specs.Machine.{run}
 use Rattle.zir_grammar.specs.Parts.{wants_sign}
 use Rattle.zir_grammar.proofs.Descent.{stop_leads, fits}

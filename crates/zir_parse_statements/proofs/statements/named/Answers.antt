@@ -1,7 +1,6 @@
-use Rattle.std.proofs.Common.{rules, ◌≡◌, ◌≤◌, ◌<◌, ◌+◌, ◌-◌, ℕ, suc, max, [], refl, sym, ap, ◌∙◌, arith}
+use Rattle.std.proofs.Common.{rules, ◌≡◌, ◌≤◌, ◌<◌, ◌+◌, suc, max, refl, sym, ◌∙◌, arith}
 use Rattle.std.proofs.lemmas.Result.{err_from_is_err_and}
-use Rattle.zir_grammar.specs.Machine.{run}
-use Rattle.zir_grammar.proofs.Descent.{stop_leads, fits}
+use Rattle.zir_grammar.proofs.Descent.{stop_leads}
 use Rattle.zir_parse_statements.proofs.Steps.{room_inside, room_beside}
 use Rattle.zir_parse_statements.proofs.StmtParts.{call_of, call_fits, value_of, assign_of, assign_begins, assign_room, same_target}
 use Rattle.zir_parse_statements.proofs.statements.named.Goals as goal
