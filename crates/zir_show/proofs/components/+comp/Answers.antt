@@ -1,4 +1,4 @@
-use Rattle.std.proofs.Common.{suc, arith, refl, ap, [], ◌∷◌, ◌++◌}
+use Rattle.std.proofs.Common.{suc, arith, refl, ap, ◌∷◌}
 use Rattle.zir_lex.specs.declared.token.Keyword.TheVariants as keyword
 use Rattle.zir_lex.specs.declared.token.Symbol.TheVariants as symbol
 use Rattle.zir_grammar.specs.Grammar.{link_rank, link_symbol}

@@ -1,4 +1,4 @@
-use Rattle.std.proofs.Common.{arith, refl, ap, [], ◌∷◌, ◌++◌, append_assoc}
+use Rattle.std.proofs.Common.{arith, refl, ap, [], ◌∷◌, append_assoc}
 use Rattle.std.specs.Prelude.{map}
 use Rattle.zir_lex.specs.declared.token.Keyword.TheVariants as keyword
 use Rattle.zir_lex.specs.declared.token.Symbol.TheVariants as symbol

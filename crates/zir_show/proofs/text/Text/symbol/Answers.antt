@@ -1,6 +1,5 @@
 use Rattle.std.proofs.Common.{rules}
-use Rattle.zir_grammar.specs.Grammar.{name, int, bit, text, main_bytes}
-use Rattle.zir_print.specs.Marks.{nowhere, link_word, mark}
+use Rattle.zir_print.specs.Marks.{mark}
 use Rattle.zir_show.proofs.Adding.{one}
 use Rattle.zir_show.proofs.text.Text.symbol.Goals as goal
 
