@@ -30,31 +30,31 @@ use Rattle.zir_print.proofs.StmtLaw.{OwnVar, var_low, OwnBounds, bounds_low, Own
 
 -- ---- the equations of the definitions
 
-kind_pipe : (l : Link) (a b : Comp) (p : Place) → comp_kind (comp.Pipe l a b p) ≡ suc (link_rank l)
+pub kind_pipe : (l : Link) (a b : Comp) (p : Place) → comp_kind (comp.Pipe l a b p) ≡ suc (link_rank l)
 unfolding shape-the_row-Comp-0 hidden-the_row-Comp-0 hidden
 kind_pipe l a b p = refl
 
-kind_repeat : (c : Comp) (p : Place) → comp_kind (comp.Repeat c p) ≡ 0
+pub kind_repeat : (c : Comp) (p : Place) → comp_kind (comp.Repeat c p) ≡ 0
 unfolding shape-the_row-Comp-0 hidden-the_row-Comp-0 hidden
 kind_repeat c p = refl
 
-kind_while : (t : Turning) (e : Expr) (c : Comp) (p : Place) → comp_kind (comp.While t e c p) ≡ 0
+pub kind_while : (t : Turning) (e : Expr) (c : Comp) (p : Place) → comp_kind (comp.While t e c p) ≡ 0
 unfolding shape-the_row-Comp-0 hidden-the_row-Comp-0 hidden
 kind_while t e c p = refl
 
-kind_times : (e : Expr) (c : Comp) (p : Place) → comp_kind (comp.Times e c p) ≡ 0
+pub kind_times : (e : Expr) (c : Comp) (p : Place) → comp_kind (comp.Times e c p) ≡ 0
 unfolding shape-the_row-Comp-0 hidden-the_row-Comp-0 hidden
 kind_times e c p = refl
 
-kind_for : (x : Ident) (from count : Expr) (c : Comp) (p : Place) → comp_kind (comp.For x from count c p) ≡ 0
+pub kind_for : (x : Ident) (from count : Expr) (c : Comp) (p : Place) → comp_kind (comp.For x from count c p) ≡ 0
 unfolding shape-the_row-Comp-0 hidden-the_row-Comp-0 hidden
 kind_for x from count c p = refl
 
-kind_if : (e : Expr) (c d : Comp) (p : Place) → comp_kind (comp.If e c d p) ≡ 0
+pub kind_if : (e : Expr) (c d : Comp) (p : Place) → comp_kind (comp.If e c d p) ≡ 0
 unfolding shape-the_row-Comp-0 hidden-the_row-Comp-0 hidden
 kind_if e c d p = refl
 
-kind_block : (ms : List Member) (p : Place) → comp_kind (comp.Block ms p) ≡ 0
+pub kind_block : (ms : List Member) (p : Place) → comp_kind (comp.Block ms p) ≡ 0
 unfolding shape-the_row-Member-1 hidden-the_row-Member-1 hidden
 kind_block ms p = refl
 
@@ -127,7 +127,7 @@ rank_small : (l : Link) → suc (link_rank l) ≤ 2
 rank_small link.Serial = omega arith
 rank_small link.Parallel = omega arith
 
-kind_small : (c : Comp) → comp_kind c ≤ 2
+pub kind_small : (c : Comp) → comp_kind c ≤ 2
 kind_small (Pipe' l _ a _ b p) = rank_small l
 kind_small other = omega arith
 

@@ -27,39 +27,39 @@ use Rattle.zir_print.proofs.TypeLaw.{Named, converts}
 
 -- ---- the equations of the definitions
 
-kind_unary : (op : Prefix) (b : Base) (a : Expr) (p : Place) → kind (expr.Unary op b a p) ≡ 1
+pub kind_unary : (op : Prefix) (b : Base) (a : Expr) (p : Place) → kind (expr.Unary op b a p) ≡ 1
 unfolding shape-the_row-Expr-0 hidden-the_row-Expr-0 hidden
 kind_unary op b a p = refl
 
-kind_binary : (op : Operator) (t : Base) (a b : Expr) (p : Place) → kind (expr.Binary op t a b p) ≡ suc (suc (rank op))
+pub kind_binary : (op : Operator) (t : Base) (a b : Expr) (p : Place) → kind (expr.Binary op t a b p) ≡ suc (suc (rank op))
 unfolding shape-the_row-Expr-0 hidden-the_row-Expr-0 hidden
 kind_binary op t a b p = refl
 
-kind_index : (a i : Expr) (p : Place) → kind (expr.Index a i p) ≡ 0
+pub kind_index : (a i : Expr) (p : Place) → kind (expr.Index a i p) ≡ 0
 unfolding shape-the_row-Expr-0 hidden-the_row-Expr-0 hidden
 kind_index a i p = refl
 
-kind_slice : (a i : Expr) (k : ℕ) (p : Place) → kind (expr.Slice a i k p) ≡ 0
+pub kind_slice : (a i : Expr) (k : ℕ) (p : Place) → kind (expr.Slice a i k p) ≡ 0
 unfolding shape-the_row-Expr-0 hidden-the_row-Expr-0 hidden
 kind_slice a i k p = refl
 
-kind_part : (a : Expr) (x : List ℕ) (k : ℕ) (p : Place) → kind (expr.Part a x k p) ≡ 0
+pub kind_part : (a : Expr) (x : List ℕ) (k : ℕ) (p : Place) → kind (expr.Part a x k p) ≡ 0
 unfolding shape-the_row-Expr-0 hidden-the_row-Expr-0 hidden
 kind_part a x k p = refl
 
-kind_convert : (b : Base) (a : Expr) (p : Place) → kind (expr.Convert b a p) ≡ 0
+pub kind_convert : (b : Base) (a : Expr) (p : Place) → kind (expr.Convert b a p) ≡ 0
 unfolding shape-the_row-Expr-0 hidden-the_row-Expr-0 hidden
 kind_convert b a p = refl
 
-kind_complex : (t : Base) (a b : Expr) (p : Place) → kind (expr.Complex t a b p) ≡ 0
+pub kind_complex : (t : Base) (a b : Expr) (p : Place) → kind (expr.Complex t a b p) ≡ 0
 unfolding shape-the_row-Expr-0 hidden-the_row-Expr-0 hidden
 kind_complex t a b p = refl
 
-kind_call : (x : Ident) (c : Callee) (es : List Expr) → kind (expr.Call x c es) ≡ 0
+pub kind_call : (x : Ident) (c : Callee) (es : List Expr) → kind (expr.Call x c es) ≡ 0
 unfolding shape-the_row-Expr-1 hidden-the_row-Expr-1 hidden
 kind_call x c es = refl
 
-kind_array : (es : List Expr) (p : Place) → kind (expr.Array es p) ≡ 0
+pub kind_array : (es : List Expr) (p : Place) → kind (expr.Array es p) ≡ 0
 unfolding shape-the_row-Expr-1 hidden-the_row-Expr-1 hidden
 kind_array es p = refl
 
@@ -92,7 +92,7 @@ pub words_complex : (t : Base) (a b : Expr) (p : Place) → expr_words (expr.Com
 unfolding shape-the_row-Expr-0 hidden-the_row-Expr-0 hidden
 words_complex t a b p = refl
 
-row_words : (es : List Expr) → each_expr (hidden-the_row-Expr-1 es) ≡ map expr_words es
+pub row_words : (es : List Expr) → each_expr (hidden-the_row-Expr-1 es) ≡ map expr_words es
 unfolding shape-the_row-Expr-1 hidden-the_row-Expr-1 hidden
 row_words [] = refl
 row_words (e ∷ es) = ap (λ w. expr_words e ∷ w) (row_words es)
@@ -156,7 +156,7 @@ rank_small operator.BitOr = omega arith
 rank_small operator.And = omega arith
 rank_small operator.Or = omega arith
 
-kind_small : (e : Expr) → kind e ≤ 11
+pub kind_small : (e : Expr) → kind e ≤ 11
 kind_small (Unary' op b _ a p) = omega arith
 kind_small (expr.Int (negsuc n) b p) = omega arith
 kind_small (Binary' op t _ a _ b p) = rank_small op
