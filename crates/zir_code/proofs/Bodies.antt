@@ -1,14 +1,15 @@
 -- A call of code does what the function means whose body the code is.
-use Rattle.std.specs.Prelude.{ℕ, suc, ℤ, pos, ◌+◌, ◌<◌, ◌≤◌, ◌^◌, List, [], ◌∷◌, ◌++◌, Some, ◌≡◌, ◌≢◌, refl, length, slice_index_or, slice_set}
+use Rattle.std.specs.Prelude.{ℕ, suc, ℤ, pos, ◌+◌, ◌<◌, ◌≤◌, ◌^◌, List, [], ◌∷◌, ◌++◌, Option, Some, None, ◌≡◌, ◌≢◌, refl, length, slice_index_or, slice_set}
 use Rattle.std.proofs.Common.{ap, ◌∙◌, sym, subst, arith, inr, get_or-set_other, get_or-set_same, length-set}
-use Rattle.zir_tree.specs.declared.value.Val.{Val}
+use Rattle.zir_tree.specs.declared.value.Val.{Val, Unit as UnitVal}
 use Rattle.zir_tree.specs.declared.types.Base.{Base}
+use Rattle.zir_tree.specs.declared.types.Base.TheVariants.{Unit as UnitTy}
 use Rattle.zir_tree.specs.declared.types.Field.{Field}
 use Rattle.zir_tree.specs.declared.stmt.Stmt.{Stmt}
 use Rattle.zir_tree.specs.declared.stmt.Return.{Return}
 use Rattle.zir_meaning.specs.Trace.{State}
 use Rattle.zir_meaning.specs.Evaluation.{Eval, Got, Traps, RunsOut, Library, then_eval, ev}
-use Rattle.zir_meaning.specs.Statements.{left_by, does, does_all, run_body}
+use Rattle.zir_meaning.specs.Statements.{left_by, does, does_all, result_of, run_body}
 use Rattle.zir_meaning.specs.Functions.{arguments, entered, returned, called_fun}
 use Rattle.zir_expr.specs.declared.frame.Spot.{Spot}
 use Rattle.zir_expr.specs.declared.frame.Spot.TheVariants.{Local}
@@ -21,7 +22,7 @@ use Rattle.zir_code.specs.Scopes.{Scope}
 use Rattle.zir_code.specs.Coding.{stands, code_of}
 use Rattle.zir_code.specs.Holding.{At, IsCell, HasForm, Hold, InOrder, Holds, Agrees}
 use Rattle.zir_code.specs.Statements.{stmt_code, scope_after, free_after, Went, AgreesStmt}
-use Rattle.zir_code.specs.Bodies.{all_code, scope_after_all, free_after_all, FineAll, parameters, inside, body_code, FineBody, ArgumentsAt, Begins, AgreesEnd}
+use Rattle.zir_code.specs.Bodies.{all_code, scope_after_all, free_after_all, FineAll, parameters, inside, result_code, ResultFits, body_code, FineBody, ArgumentsAt, Begins, AgreesEnd}
 use Rattle.zir_code.specs.Calls.{Calls}
 use Rattle.zir_code.proofs.Kept.{low_place, go_all-append}
 use Rattle.zir_code.proofs.Simulation.{room_positive, coded}
@@ -97,11 +98,11 @@ hold_arguments cells base i n (p ∷ ps) (v ∷ vs) room small le a =
     let one : At cells (from_base base i) (x ∷ []) = (omega arith, ap (λ j. slice_index_or cells j (pos 0)) q, tt) in (
       record {
         id = refl;
-        cells = subst (At cells (from_base base i)) (sym (cells_is t v x a.2)) one;
-        size = ap length (cells_is t v x a.2);
+        cells = subst (At cells (from_base base i)) (sym (cells_is t v x a.3 a.2)) one;
+        size = ap length (cells_is t v x a.3 a.2);
         form = subst (λ ty. HasForm ty.lengths ty.base v) (sym a.1) (form_is t v x a.2);
       },
-      hold_arguments cells base (i + 1) n ps vs room small (omega arith) (subst (λ j. ArgumentsAt cells j ps vs) (let e : (base + i) + 1 ≡ base + (i + 1) = omega arith in e) a.3),
+      hold_arguments cells base (i + 1) n ps vs room small (omega arith) (subst (λ j. ArgumentsAt cells j ps vs) (let e : (base + i) + 1 ≡ base + (i + 1) = omega arith in e) a.4),
     )
 
 order_parameters : (base i n : ℕ) (ps : List Field) → base + n < 2 ^ 63 → i + length ps ≤ n → InOrder base (base + i) (base + (i + length ps)) (parameters i ps)
@@ -144,8 +145,21 @@ comes_back top base k g t m s RunsOut (Done m') o a = absurd a
 comes_back top base k g t m s RunsOut (Trapped w m') o a = absurd a
 comes_back top base k g t m s RunsOut Out o a = tt
 
--- the code of a body with a value does what a call of the function means, and leaves the value in the body's first cell
-pub body_agrees : (top base n : ℕ) (l : Library) (g : Scope) (fa : Calls top l g.tops g.funs) (ps : List Field) (statements : List Stmt) (r : Return) (t : Base) (vs : List Val) (m : Memory) (s : State) → FineBody g n ps statements r t → Begins top base n g ps vs m s → Agrees top base 0 g t (Local 0) m s (called_fun ps (run_body l (record { statements = statements; result = Some r })) vs s) (go_all (body_code g ps statements r) base m)
+-- the value of a body, or unit where it has none
+result_agrees : (top base d n : ℕ) (l : Library) (g : Scope) (fa : Calls top l g.tops g.funs) (tops : List Holder) (r : Option Return) (t : Base) (m0 m : Memory) (s : State) → ResultFits g d n t r → g.tops ≡ tops → Alike top base m0 m → Holds top base d n g m s → AgreesEnd top base tops t m0 (result_of l r s) (go_all (result_code g d r) base m)
+result_agrees top base d n l g fa tops None t m0 m s f z a h = (
+  subst (λ t. IsCell t UnitVal (cell_at (from_base base 0) m)) (sym f) refl,
+  record { tops_held = subst (λ ds. Hold m.cells base ds s.store.tops) z h.tops; same = a.same; size = a.size; used = h.used; limit = h.limit },
+)
+result_agrees top base d n l g fa tops (Some r) t m0 m s f z a h =
+    let positive = room_positive g r.value in
+    let fit = f.1 in
+    subst (λ q. AgreesEnd top base tops t m0 (ev l r.value s) q) (sym (go_all-append (code_of g r.value d) (Copy (Local 0) (stands g r.value d) ∷ []) base m))
+    (value_to_first top base d n g tops t (stands g r.value d) m0 m s (ev l r.value s) (go_all (code_of g r.value d) base m) z h.apart (omega arith) h.room h.small a
+    (coded top base d n l g fa t r.value m s fit f.0 h))
+
+-- the code of a body does what a call of the function means, and leaves its value in the body's first cell
+pub body_agrees : (top base n : ℕ) (l : Library) (g : Scope) (fa : Calls top l g.tops g.funs) (ps : List Field) (statements : List Stmt) (r : Option Return) (t : Base) (vs : List Val) (m : Memory) (s : State) → FineBody g n ps statements r t → Begins top base n g ps vs m s → Agrees top base 0 g t (Local 0) m s (called_fun ps (run_body l (record { statements = statements; result = r })) vs s) (go_all (body_code g ps statements r) base m)
 body_agrees top base n l g fa ps statements r t vs m s f b =
     let g1 = inside g ps in
     let d1 = length ps in
@@ -153,15 +167,9 @@ body_agrees top base n l g fa ps statements r t vs m s f b =
     let d2 = free_after_all d1 statements in
     let h = begun top base n g ps vs m s b in
     let s1 = entered ps vs s in
-    let fit = f.1.1 in
-    let last : List Step = code_of g2 r.value d2 ++ Copy (Local 0) (stands g2 r.value d2) ∷ [] in
     let z : g2.tops ≡ g.tops = (adds_all g1 d1 statements).tops in
     comes_back top base (length (arguments ps vs)) g t m s _ _ b.tops_in
-    (subst (λ q. AgreesEnd top base g.tops t m (then_eval (does_all l statements s1) (λ v s2. ev l r.value s2)) q) (sym (go_all-append (all_code g1 d1 statements) last base m))
-    (end_after top base d2 n g2 g.tops t m (does_all l statements s1) (go_all (all_code g1 d1 statements) base m) (λ v s2. ev l r.value s2) (go_all last base) z
+    (subst (λ q. AgreesEnd top base g.tops t m (then_eval (does_all l statements s1) (λ v s2. result_of l r s2)) q) (sym (go_all-append (all_code g1 d1 statements) (result_code g2 d2 r) base m))
+    (end_after top base d2 n g2 g.tops t m (does_all l statements s1) (go_all (all_code g1 d1 statements) base m) (λ v s2. result_of l r s2) (go_all (result_code g2 d2 r) base) z
     (all_agree top base n l statements d1 g1 fa m s1 f.0 h)
-    (λ v s2 m2 w.
-    let positive = room_positive g2 r.value in
-    subst (λ q. AgreesEnd top base g.tops t m (ev l r.value s2) q) (sym (go_all-append (code_of g2 r.value d2) (Copy (Local 0) (stands g2 r.value d2) ∷ []) base m2))
-    (value_to_first top base d2 n g2 g.tops t (stands g2 r.value d2) m m2 s2 (ev l r.value s2) (go_all (code_of g2 r.value d2) base m2) z w.holds.apart (omega arith) w.holds.room w.holds.small (alike_went top base d2 n g2 m m2 s2 w)
-    (coded top base d2 n l g2 (calls_after top l g1 g2 (adds_all g1 d1 statements) fa) t r.value m2 s2 fit f.1.0 w.holds)))))
+    (λ v s2 m2 w. result_agrees top base d2 n l g2 (calls_after top l g1 g2 (adds_all g1 d1 statements) fa) g.tops r t m m2 s2 f.1 z (alike_went top base d2 n g2 m m2 s2 w) w.holds)))

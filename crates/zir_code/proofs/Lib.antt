@@ -1,5 +1,7 @@
+pub mod Arguments
 pub mod Bodies
 pub mod Calls
+pub mod Forms
 pub mod Kept
 pub mod Operating
 pub mod Program

@@ -40,7 +40,7 @@ are_arguments cells i [] [] (v ∷ vs) p a = absurd a
 are_arguments cells i [] (t ∷ ts) vs p a = absurd p
 are_arguments cells i (f ∷ ps) [] vs p a = absurd p
 are_arguments cells i (f ∷ ps) (t ∷ ts) [] p a = absurd a
-are_arguments cells i (f ∷ ps) (t ∷ ts) (v ∷ vs) p a = (t, p.0, a.0, are_arguments cells (i + 1) ps ts vs p.1 a.1)
+are_arguments cells i (f ∷ ps) (t ∷ ts) (v ∷ vs) p a = (t, p.0, a.0, p.1, are_arguments cells (i + 1) ps ts vs p.2 a.1)
 
 -- a function with a signature
 one_agrees : (top : ℕ) (blanks : List Val) (funs : Funs) (tops : List Holder) (sigs : ℕ → Option Signature) (f : Function) (sig : Signature) → Calls top (record { blanks = blanks; funs = funs }) tops sigs → HasSignature tops sigs f sig → (base : ℕ) (vs : List Val) (m : Memory) (s : State) → CallBegins top base sig tops vs m s → Agrees top base 0 (bare tops) sig.result (Local 0) m s (called_fun f.params (run_body (record { blanks = blanks; funs = funs }) f.body) vs s) (go_all sig.code.steps base m)
@@ -48,8 +48,7 @@ one_agrees top blanks funs tops sigs f sig c h base vs m s b =
     let l : Library = record { blanks = blanks; funs = funs } in
     bare_agrees top base tops sigs sig.result m s _ _
     (subst (λ steps. Agrees top base 0 (at_top tops sigs) sig.result (Local 0) m s (called_fun f.params (run_body l f.body) vs s) (go_all steps base m)) (sym h.code)
-    (subst (λ r. Agrees top base 0 (at_top tops sigs) sig.result (Local 0) m s (called_fun f.params (run_body l (record { statements = f.body.statements; result = r })) vs s) (go_all (body_code (at_top tops sigs) f.params f.body.statements h.value) base m)) (sym h.result)
-    (body_agrees top base sig.needs l (at_top tops sigs) c f.params f.body.statements h.value sig.result vs m s h.fine (record {
+    (body_agrees top base sig.needs l (at_top tops sigs) c f.params f.body.statements f.body.result sig.result vs m s h.fine (record {
       tops = b.tops_held;
       tops_in = b.tops_in;
       arguments = are_arguments m.cells base f.params sig.params vs h.parameters b.arguments;
@@ -59,7 +58,7 @@ one_agrees top blanks funs tops sigs f sig c h base vs m s b =
       apart = b.apart;
       room = b.room;
       small = b.small;
-    }))))
+    })))
 
 -- a choice between one more function and those before it
 picked : (b : Bool) (top : ℕ) (tops : List Holder) (new old : List Val → State → Eval) (sig other : Option Signature) (f : Signature) → pick b sig other ≡ Some f → (sig ≡ Some f → (base : ℕ) (vs : List Val) (m : Memory) (s : State) → CallBegins top base f tops vs m s → Agrees top base 0 (bare tops) f.result (Local 0) m s (new vs s) (go_all f.code.steps base m)) → (other ≡ Some f → (base : ℕ) (vs : List Val) (m : Memory) (s : State) → CallBegins top base f tops vs m s → Agrees top base 0 (bare tops) f.result (Local 0) m s (old vs s) (go_all f.code.steps base m)) → (base : ℕ) (vs : List Val) (m : Memory) (s : State) → CallBegins top base f tops vs m s → Agrees top base 0 (bare tops) f.result (Local 0) m s (pick b new old vs s) (go_all f.code.steps base m)

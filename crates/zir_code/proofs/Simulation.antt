@@ -2,7 +2,7 @@
 use Rattle.std.specs.Prelude.{ℕ, ℤ, pos, ◌+◌, ◌<◌, ◌≤◌, ◌^◌, max, List, [], ◌∷◌, ◌++◌, Bool, true, false, Option, Some, None, Result, Ok, Err, ◌≡◌, refl, length, slice_index_or}
 use Rattle.std.proofs.Common.{ap, ◌∙◌, sym, subst, arith, inl, inr, append_assoc, get_or-set_same}
 use Rattle.zir_tree.specs.declared.place.Place.{Place}
-use Rattle.zir_tree.specs.declared.value.Val.{Val, Bit as BitVal, Bool as BoolVal, Num}
+use Rattle.zir_tree.specs.declared.value.Val.{Val, Unit as UnitVal, Bit as BitVal, Bool as BoolVal, Num}
 use Rattle.zir_tree.specs.declared.types.Base.{Base}
 use Rattle.zir_tree.specs.declared.types.Base.TheVariants.{Unit as UnitTy, Bit as BitTy, Bool as BoolTy, Int8, Int16, Int32, Int64, Complex16, Complex32, Struct as StructTy}
 use Rattle.zir_tree.specs.declared.expr.Operator.{Operator}
@@ -36,6 +36,7 @@ use Rattle.zir_code.specs.Coding.{operation_of, change_of, conversion_of, read_s
 use Rattle.zir_code.specs.Typing.{IsScalar, SpotFits, OperatorFits, Has, ArgumentsFit}
 use Rattle.zir_code.specs.Holding.{At, IsCell, HasForm, Holds, Kept, Agrees}
 use Rattle.zir_code.proofs.Kept.{low_place, variable_found, kept_holds, kept_kept, kept_less, holds_kept, holds_more, kept_put, put_value, then-then, go_all-append, agrees_then, agrees_on, agrees_more, then-done}
+use Rattle.zir_code.proofs.Stores.{not_unit}
 use Rattle.zir_code.proofs.Operating.{is_num, SameAnswer, TakesBoth, operates, changes, converts, is_set_cell, whole_cases}
 
 -- a scalar that stands in the cells is its one cell
@@ -57,17 +58,17 @@ cell_from cells i t v s f a = elim s [
   from_number f = f.1 ∙ ap Num (sym (subst (λ v. At cells i (cells_of v)) f.1 a).1)
 
 -- a scalar has one cell
-one_cell : (t : Base) (v : Val) (x : ℤ) → IsCell t v x → length (cells_of v) ≡ 1
-one_cell UnitTy v x i = absurd i
-one_cell BitTy v x i = rw i.1 refl
-one_cell BoolTy v x i = rw i.1 refl
-one_cell Int8 v x i = rw i refl
-one_cell Int16 v x i = rw i refl
-one_cell Int32 v x i = rw i refl
-one_cell Int64 v x i = rw i refl
-one_cell Complex16 v x i = absurd i
-one_cell Complex32 v x i = absurd i
-one_cell (StructTy k) v x i = absurd i
+one_cell : (t : Base) (v : Val) (x : ℤ) → IsScalar t → IsCell t v x → length (cells_of v) ≡ 1
+one_cell UnitTy v x sc i = absurd (not_unit sc)
+one_cell BitTy v x sc i = rw i.1 refl
+one_cell BoolTy v x sc i = rw i.1 refl
+one_cell Int8 v x sc i = rw i refl
+one_cell Int16 v x sc i = rw i refl
+one_cell Int32 v x sc i = rw i refl
+one_cell Int64 v x sc i = rw i refl
+one_cell Complex16 v x sc i = absurd i
+one_cell Complex32 v x sc i = absurd i
+one_cell (StructTy k) v x sc i = absurd i
 
 -- a place that code further on leaves as it is
 pub record Below (top base d : ℕ) (spot : Spot) : Type 0 where
@@ -97,7 +98,7 @@ found_before : (top base d n : ℕ) (g : Scope) (t : Base) (m : Memory) (s : Sta
 found_before top base d n g t m s id e h q ty sc =
     let f = variable_found top base d n g m s id e h q in
     let b = f.before in
-    let c = one_cell t (look_up s.store id) (cell_at (place_of base e.spot) m) (found_cell top base d n g t m s id e h q ty sc) in
+    let c = one_cell t (look_up s.store id) (cell_at (place_of base e.spot) m) sc (found_cell top base d n g t m s id e h q ty sc) in
     omega arith
 
 -- where a value stands is left as it is by code further on
@@ -272,7 +273,8 @@ append_none (t ∷ ts) = ap (λ us. t ∷ us) (append_none ts)
 mutual
   -- the code of an expression does what the expression means
   pub coded : (top base d n : ℕ) (l : Library) (g : Scope) (fa : Calls top l g.tops g.funs) (t : Base) (e : Expr) (m : Memory) (s : State) → d + room_of g e ≤ n → Has g n t e → Holds top base d n g m s → Agrees top base d g t (stands g e d) m s (ev l e s) (go_all (code_of g e d) base m)
-  coded top base d n l g fa t (UnitLiteral p) m s r c h = absurd c
+  coded top base d n l g fa t (UnitLiteral p) m s r c h =
+      subst (λ t. Agrees top base d g t (Local d) m s (Got UnitVal s) (Done m)) (sym c) (refl, holds_kept top base d d n g m s h)
   coded top base d n l g fa t (Bit b p) m s r c h =
       subst (λ t. Agrees top base d g t (Local d) m s (Got (BitVal b) s) (Done (put_cell (from_base base d) (cell_of b) m))) (sym c)
       (put_value top base d n g BitTy m m s s (BitVal b) (cell_of b) h.apart r h.room h.small (b, refl, refl) (holds_kept top base d d n g m s h))

@@ -1,5 +1,5 @@
 -- The code of statements does what they mean.
-use Rattle.std.specs.Prelude.{ℕ, zero, suc, ℤ, pos, negsuc, ◌+◌, ◌-◌, ◌<◌, ◌≤◌, ◌^◌, ◌+ℤ◌, List, [], ◌∷◌, ◌++◌, Bool, true, false, Option, Some, None, nat_lt, ◌≡◌, ◌≢◌, refl, length, slice_index_or}
+use Rattle.std.specs.Prelude.{ℕ, zero, suc, ℤ, pos, negsuc, ◌+◌, ◌-◌, ◌<◌, ◌≤◌, ◌^◌, ◌+ℤ◌, max, List, [], ◌∷◌, ◌++◌, Bool, true, false, Option, Some, None, nat_lt, ◌≡◌, ◌≢◌, refl, length, slice_index_or}
 use Rattle.std.proofs.Common.{ap, ◌∙◌, sym, subst, arith, append_assoc, inl, inr, get_or-set_other, get_or-set_same, length-set}
 use Rattle.std.specs.Int.{int_wrap}
 use Rattle.std.proofs.lemmas.Bool.Decides.{nat_tests}
@@ -13,11 +13,11 @@ use Rattle.zir_tree.specs.declared.expr.Expr.{Expr}
 use Rattle.zir_tree.specs.declared.stmt.Stmt.{Stmt, Var as VarStmt, Assign, Call, Error, If', IfElse', While', For', Row_of-Stmt, end_of-Stmt, more_of-Stmt}
 use Rattle.zir_meaning.specs.Values.{is_one, num_of, type_of, blank, blank_base}
 use Rattle.zir_meaning.specs.Trace.{State}
-use Rattle.zir_meaning.specs.Evaluation.{Eval, Got, Traps, RunsOut, Library, then_eval, tick_eval, tick_eval_of, choose_eval, ev}
+use Rattle.zir_meaning.specs.Evaluation.{Eval, Got, Traps, RunsOut, Library, then_eval, tick_eval, tick_eval_of, choose_eval, ev, ev_list}
 use Rattle.zir_meaning.specs.Statements.{bind, assign, left_by, scope, done, while_eval, turns_of, next_index, counted_eval, initial_of, does, does_row}
 use Rattle.zir_expr.specs.declared.frame.Spot.{Spot}
 use Rattle.zir_expr.specs.declared.frame.Spot.TheVariants.{Local}
-use Rattle.zir_expr.specs.declared.steps.Step.{Step, Copy, Branch, While, Count}
+use Rattle.zir_expr.specs.declared.steps.Step.{Step, Copy, Branch, While, Count, Call as CallStep}
 use Rattle.zir_expr.specs.declared.steps.Fork.{Fork}
 use Rattle.zir_expr.specs.declared.steps.Turn.{Turn}
 use Rattle.zir_expr.specs.declared.steps.Counting.{Counting}
@@ -27,15 +27,18 @@ use Rattle.zir_expr.specs.Memory.Frames.{Memory}
 use Rattle.zir_expr.specs.Running.{go, go_all, go_turns, go_counted, turns_in, branch}
 use Rattle.zir_expr.proofs.Going.{go-Branch, go-While, go-Count}
 use Rattle.zir_code.specs.declared.scope.Holder.{Holder}
+use Rattle.zir_code.specs.declared.scope.Signature.{Signature}
 use Rattle.zir_code.specs.Scopes.{Scope, variable}
-use Rattle.zir_code.specs.Coding.{stands, code_of}
-use Rattle.zir_code.specs.Typing.{IsScalar}
+use Rattle.zir_code.specs.Coding.{stands, code_of, call_code, needs_of, code_of_all, room_in_all}
+use Rattle.zir_code.specs.Typing.{IsScalar, AllFit}
 use Rattle.zir_code.specs.Holding.{IsCell, Hold, InOrder, Holds, Kept, Agrees}
 use Rattle.zir_code.specs.Statements.{with_local, scope_after, free_after, initial_code, to_variable, stmt_code, row_code, scope_after_row, free_after_row, SoleIn, Fits, InitialFits, Fine, FineRow, Went, AgreesStmt}
 use Rattle.zir_code.specs.Calls.{Calls}
 use Rattle.zir_code.proofs.Kept.{low_place, kept_holds, kept_less, holds_more, kept_put, go_all-append, then-done}
 use Rattle.zir_code.proofs.Operating.{is_set_cell, whole_cases}
 use Rattle.zir_code.proofs.Simulation.{room_positive, coded}
+use Rattle.zir_code.proofs.Calls.{calls_agree}
+use Rattle.zir_code.proofs.Arguments.{list_agrees}
 use Rattle.zir_code.proofs.Stores.{hold_length, hold_front, bound_holds, assigned_holds, assigned_same}
 
 -- two memories whose cells between the top variables and those of the body are the same
@@ -255,26 +258,26 @@ blank_cell blanks t s = elim s [
 ]
 
 -- a new variable is in scope
-declared : (top base d n : ℕ) (g : Scope) (m m1 : Memory) (s1 : State) (id : ℕ) (ty : Ty) (t : Base) (v : Val) (x : ℤ) → d + 1 ≤ n → ty ≡ record { lengths = []; base = t } → IsCell t v x → Holds top base d n g m1 s1 → Alike top base m m1 → AgreesStmt top base (d + 1) n (with_local g d id ty) m (Got UnitVal (bind id v s1)) (Done (put_cell (from_base base d) x m1))
-declared top base d n g m m1 s1 id ty t v x le e i h a =
+declared : (top base d n : ℕ) (g : Scope) (m m1 : Memory) (s1 : State) (id : ℕ) (ty : Ty) (t : Base) (v : Val) (x : ℤ) → d + 1 ≤ n → ty ≡ record { lengths = []; base = t } → IsScalar t → IsCell t v x → Holds top base d n g m1 s1 → Alike top base m m1 → AgreesStmt top base (d + 1) n (with_local g d id ty) m (Got UnitVal (bind id v s1)) (Done (put_cell (from_base base d) x m1))
+declared top base d n g m m1 s1 id ty t v x le e sc i h a =
     let room : base + n ≤ length m1.cells = h.room in
     let small : length m1.cells < 2 ^ 63 = h.small in
     let q : from_base base d ≡ base + d = low_place base d (omega arith) in
     let b = alike_put top base (from_base base d) x m m1 (omega arith) a in
-    record { holds = bound_holds top base d n g m1 s1 id ty t v x le e i h; same = b.same; size = b.size }
+    record { holds = bound_holds top base d n g m1 s1 id ty t v x le e sc i h; same = b.same; size = b.size }
 
 -- the code of a variable's declaration
 declares : (top base d n : ℕ) (l : Library) (g : Scope) (fa : Calls top l g.tops g.funs) (m : Memory) (s : State) (id : ℕ) (ty : TypeExpr) (o : Option Expr) (t : Base) → type_of ty ≡ record { lengths = []; base = t } → IsScalar t → d + 1 ≤ n → InitialFits g d n t o → Holds top base d n g m s → AgreesStmt top base (d + 1) n (with_local g d id (type_of ty)) m (then_eval (initial_of l ty o s) (λ w s'. Got UnitVal (bind id w s'))) (go_all (initial_code g d o) base m)
 declares top base d n l g fa m s id ty None t e sc le f h =
-    declared top base d n g m m s id (type_of ty) t (blank l.blanks (type_of ty)) (pos 0) le e (subst (λ ty. IsCell t (blank l.blanks ty) (pos 0)) (sym e) (blank_cell l.blanks t sc)) h (record { same = λ i b c. refl; size = refl })
+    declared top base d n g m m s id (type_of ty) t (blank l.blanks (type_of ty)) (pos 0) le e sc (subst (λ ty. IsCell t (blank l.blanks ty) (pos 0)) (sym e) (blank_cell l.blanks t sc)) h (record { same = λ i b c. refl; size = refl })
 declares top base d n l g fa m s id ty (Some x) t e sc le f h =
     subst (λ q. AgreesStmt top base (d + 1) n (with_local g d id (type_of ty)) m (then_eval (ev l x s) (λ w s'. Got UnitVal (bind id w s'))) q) (sym (go_all-append (code_of g x d) (Copy (Local d) (stands g x d) ∷ []) base m))
     (after_expression top base d (d + 1) d n g (with_local g d id (type_of ty)) t (stands g x d) m s (ev l x s) (go_all (code_of g x d) base m) _ _ refl (coded top base d n l g fa t x m s f.1 f.0 h)
-    (λ v s1 m1 i k. declared top base d n g m m1 s1 id (type_of ty) t v (cell_at (place_of base (stands g x d)) m1) le e i (kept_holds top base d d n g m m1 s s1 (omega arith) h k) (alike_kept top base d g m m1 s s1 k)))
+    (λ v s1 m1 i k. declared top base d n g m m1 s1 id (type_of ty) t v (cell_at (place_of base (stands g x d)) m1) le e sc i (kept_holds top base d d n g m m1 s s1 (omega arith) h k) (alike_kept top base d g m m1 s s1 k)))
 
 -- the code of an assignment to a whole variable
-assigns : (top base d n : ℕ) (l : Library) (g : Scope) (fa : Calls top l g.tops g.funs) (m : Memory) (s : State) (id : ℕ) (e : Expr) (t : Base) (v : Holder) → variable g id ≡ Some v → SoleIn g id v → v.ty ≡ record { lengths = []; base = t } → v.cells ≡ 1 → Fits g d n t e → Holds top base d n g m s → AgreesStmt top base d n g m (then_eval (ev l e s) (λ w s'. Got UnitVal (assign id w s'))) (go_all (code_of g e d ++ to_variable (variable g id) (stands g e d)) base m)
-assigns top base d n l g fa m s id e t v q sole ty one f h =
+assigns : (top base d n : ℕ) (l : Library) (g : Scope) (fa : Calls top l g.tops g.funs) (m : Memory) (s : State) (id : ℕ) (e : Expr) (t : Base) (v : Holder) → variable g id ≡ Some v → SoleIn g id v → v.ty ≡ record { lengths = []; base = t } → v.cells ≡ 1 → Fits g d n t e → IsScalar t → Holds top base d n g m s → AgreesStmt top base d n g m (then_eval (ev l e s) (λ w s'. Got UnitVal (assign id w s'))) (go_all (code_of g e d ++ to_variable (variable g id) (stands g e d)) base m)
+assigns top base d n l g fa m s id e t v q sole ty one f sc h =
     subst (λ o. AgreesStmt top base d n g m (then_eval (ev l e s) (λ w s'. Got UnitVal (assign id w s'))) (go_all (code_of g e d ++ to_variable o (stands g e d)) base m)) (sym q)
     (subst (λ r. AgreesStmt top base d n g m (then_eval (ev l e s) (λ w s'. Got UnitVal (assign id w s'))) r) (sym (go_all-append (code_of g e d) (Copy v.spot (stands g e d) ∷ []) base m))
     (after_expression top base d d d n g g t (stands g e d) m s (ev l e s) (go_all (code_of g e d) base m) _ _ refl (coded top base d n l g fa t e m s f.1 f.0 h)
@@ -282,7 +285,7 @@ assigns top base d n l g fa m s id e t v q sole ty one f h =
     let h1 = kept_holds top base d d n g m m1 s s1 (omega arith) h k in
     let x = cell_at (place_of base (stands g e d)) m1 in
     record {
-      holds = assigned_holds top base d n g m1 s1 id v t w x sole ty one (let r = f.1 in omega arith) i h1;
+      holds = assigned_holds top base d n g m1 s1 id v t w x sole ty one (let r = f.1 in omega arith) sc i h1;
       same = λ j a b. assigned_same top base d n g m1 s1 id v x j sole one h1 a b ∙ k.same j a (omega arith);
       size = length-set m1.cells (place_of base v.spot) x ∙ k.size;
     })))
@@ -301,7 +304,7 @@ turn_agrees top base d d' n g g' id body code j m s le adds b h =
     let x = adds_both g (with_local g d id ty) g' (record { names = _; locals = refl; tops = refl; funs = refl }) adds in
     leaves top base d d' n (length s.store.locals) g g' x.names m (body (bind id (Num j) s)) (code (put_cell (from_base base d) j m)) (hold_length m.cells base g.locals s.store.locals h.locals) x.locals x.tops h.tops_in h.locals_in
     (from_alike top base d' n g' m (put_cell (from_base base d) j m) _ _ (alike_put top base (from_base base d) j m m (omega arith) (record { same = λ i a c. refl; size = refl }))
-    (b (put_cell (from_base base d) j m) (bind id (Num j) s) (bound_holds top base d n g m s id ty Int32 (Num j) j le refl refl h)))
+    (b (put_cell (from_base base d) j m) (bind id (Num j) s) (bound_holds top base d n g m s id ty Int32 (Num j) j le refl (inr (inr tt)) refl h)))
 
 -- the code of a loop that counts, once its bounds stand in their cells
 counts : (top base d n : ℕ) (g : Scope) (id : ℕ) (body : State → Eval) (steps : List Step) (x y : ℤ) (m : Memory) (s : State) → ((j : ℤ) (m1 : Memory) (s1 : State) → Holds top base d n g m1 s1 → AgreesStmt top base d n g m1 (scope (λ s2. body (bind id (Num j) s2)) s1) (go_all steps base (put_cell (from_base base d) j m1))) → Holds top base d n g m s → cell_at (from_base base d) m ≡ x → cell_at (from_base base (d + 1)) m ≡ y → AgreesStmt top base d n g m (counted_eval (turns_of y) id x body s) (go_all (Count (record { turns = Local (d + 1); index = Local d; body = steps }) ∷ []) base m)
@@ -384,14 +387,39 @@ while_agrees top base d n l g fa e body steps m s f b h =
     (sym (then-done (go (While w) base m) base ∙ go-While w base m ∙ ap (λ k. go_turns k (go_all (code_of g e d) base) (stands g e d) base (go_all steps base) m) left))
     (turns_agree s.left top base d n g l fa e body (go_all steps base) m s f b h)
 
+-- what an expression leaves is what a statement may leave
+kept_stated : (top base d n : ℕ) (g : Scope) (t : Base) (spot : Spot) (m : Memory) (s : State) (r : Eval) (q : Ran) → Holds top base d n g m s → Agrees top base d g t spot m s r q → AgreesStmt top base d n g m r q
+kept_stated top base d n g t spot m s (Got v s') (Done m') h a =
+    record { holds = kept_holds top base d d n g m m' s s' (omega arith) h a.1; same = λ i b c. a.1.same i b (omega arith); size = a.1.size }
+kept_stated top base d n g t spot m s (Got v s') (Trapped u m') h a = absurd a
+kept_stated top base d n g t spot m s (Got v s') Out h a = absurd a
+kept_stated top base d n g t spot m s (Traps u s') (Done m') h a = absurd a
+kept_stated top base d n g t spot m s (Traps u s') (Trapped w m') h a =
+    (a.0, record { tops_held = a.1.tops; same = λ i b c. a.1.same i b (omega arith); size = a.1.size; used = a.1.used; limit = a.1.limit })
+kept_stated top base d n g t spot m s (Traps u s') Out h a = absurd a
+kept_stated top base d n g t spot m s RunsOut (Done m') h a = absurd a
+kept_stated top base d n g t spot m s RunsOut (Trapped w m') h a = absurd a
+kept_stated top base d n g t spot m s RunsOut Out h a = tt
+
+-- the code of a call, whose value is left out
+calls : (top base d n : ℕ) (l : Library) (g : Scope) (fa : Calls top l g.tops g.funs) (k : ℕ) (es : List Expr) (m : Memory) (s : State) (f : Signature) → g.funs k ≡ Some f → AllFit g n f.params es → d + max (needs_of (g.funs k)) (room_in_all g es) ≤ n → Holds top base d n g m s → AgreesStmt top base d n g m (ev_list l es [] s (λ vs s'. tick_eval s' (l.funs k vs))) (go_all (code_of_all g es d ++ call_code (g.funs k) d) base m)
+calls top base d n l g fa k es m s f q c r h =
+    let needs : needs_of (g.funs k) ≡ max 1 f.needs = ap needs_of q in
+    kept_stated top base d n g f.result (Local d) m s _ _ h
+    (subst (λ o. Agrees top base d g f.result (Local d) m s (ev_list l es [] s (λ vs s'. tick_eval s' (l.funs k vs))) (go_all (code_of_all g es d ++ call_code o d) base m)) (sym q)
+    (subst (λ z. Agrees top base d g f.result (Local d) m s (ev_list l es [] s (λ vs s'. tick_eval s' (l.funs k vs))) z) (sym (go_all-append (code_of_all g es d) (CallStep f.code d ∷ []) base m))
+    (list_agrees es top base d n l g fa f.result (Local d) f.params m s (λ vs s'. tick_eval s' (l.funs k vs)) (go_all (CallStep f.code d ∷ []) base) (omega arith) c h
+    (λ vs s1 m1 kept args. calls_agree top base d n l g k f vs m m1 s s1 fa q (omega arith) (omega arith) h kept args))))
+
 mutual
   -- the code of a statement does what the statement means
   pub statement_agrees : (top base n : ℕ) (l : Library) (a : Stmt) (d : ℕ) (g : Scope) (fa : Calls top l g.tops g.funs) (m : Memory) (s : State) → Fine g d n a → Holds top base d n g m s → AgreesStmt top base (free_after d a) n (scope_after g d a) m (does l a s) (go_all (stmt_code g d a) base m)
   statement_agrees top base n l (VarStmt v) d g fa m s f h = declares top base d n l g fa m s v.name.id v.ty v.initial f.0 f.1 f.2 f.3 f.4 h
   statement_agrees top base n l (Assign name path e) d g fa m s f h =
       subst (λ path. AgreesStmt top base d n g m (does l (Assign name path e) s) (go_all (stmt_code g d (Assign name path e)) base m)) (sym f.0)
-      (assigns top base d n l g fa m s name.id e f.1 f.2 f.3 f.4 f.5 f.6 f.7 h)
-  statement_agrees top base n l (Call name k es) d g fa m s f h = absurd f
+      (assigns top base d n l g fa m s name.id e f.1 f.2 f.3 f.4 f.5 f.6 f.7 f.8 h)
+  statement_agrees top base n l (Call name k es) d g fa m s f h =
+      calls top base d n l g fa k es m s f.0 f.1 f.2 f.3 h
   statement_agrees top base n l (Error text p) d g fa m s f h = (refl, record { tops_held = h.tops; same = λ i a b. refl; size = refl; used = h.used; limit = h.limit })
   statement_agrees top base n l (If' e _ a p) d g fa m s f h =
       if_agrees top base d n l g fa e (scope (does_row l a)) done (row_code g d a) [] m s f.0

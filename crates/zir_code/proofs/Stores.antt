@@ -15,24 +15,31 @@ use Rattle.zir_expr.specs.Memory.{put_cell, from_base, place_of}
 use Rattle.zir_expr.specs.Memory.Frames.{Memory}
 use Rattle.zir_code.specs.declared.scope.Holder.{Holder}
 use Rattle.zir_code.specs.Scopes.{Scope}
+use Rattle.zir_code.specs.Typing.{IsScalar}
 use Rattle.zir_code.specs.Holding.{At, IsCell, HasForm, HoldsOne, Hold, InOrder, Holds}
 use Rattle.zir_code.specs.Statements.{with_local, Absent, Sole, SoleIn}
 use Rattle.zir_code.proofs.Kept.{low_place, same_at, order_ends, same_hold}
 
-pub cells_is : (t : Base) (v : Val) (x : ℤ) → IsCell t v x → cells_of v ≡ x ∷ []
-cells_is UnitTy v x i = absurd i
-cells_is BitTy v x i = rw (i.1, i.2) refl
-cells_is BoolTy v x i = rw (i.1, i.2) refl
-cells_is Int8 v x i = rw i refl
-cells_is Int16 v x i = rw i refl
-cells_is Int32 v x i = rw i refl
-cells_is Int64 v x i = rw i refl
-cells_is Complex16 v x i = absurd i
-cells_is Complex32 v x i = absurd i
-cells_is (StructTy k) v x i = absurd i
+-- a value of one cell is not unit
+pub not_unit : IsScalar UnitTy → ⊥
+not_unit (inl e) = cc
+not_unit (inr (inl e)) = cc
+not_unit (inr (inr w)) = w
+
+pub cells_is : (t : Base) (v : Val) (x : ℤ) → IsScalar t → IsCell t v x → cells_of v ≡ x ∷ []
+cells_is UnitTy v x sc i = absurd (not_unit sc)
+cells_is BitTy v x sc i = rw (i.1, i.2) refl
+cells_is BoolTy v x sc i = rw (i.1, i.2) refl
+cells_is Int8 v x sc i = rw i refl
+cells_is Int16 v x sc i = rw i refl
+cells_is Int32 v x sc i = rw i refl
+cells_is Int64 v x sc i = rw i refl
+cells_is Complex16 v x sc i = absurd i
+cells_is Complex32 v x sc i = absurd i
+cells_is (StructTy k) v x sc i = absurd i
 
 pub form_is : (t : Base) (v : Val) (x : ℤ) → IsCell t v x → HasForm [] t v
-form_is UnitTy v x i = absurd i
+form_is UnitTy v x i = tt
 form_is BitTy v x i = (i.0, i.1)
 form_is BoolTy v x i = (i.0, i.1)
 form_is Int8 v x i = (x, i)
@@ -44,8 +51,8 @@ form_is Complex32 v x i = absurd i
 form_is (StructTy k) v x i = absurd i
 
 -- a scalar in a cell that was written
-scalar_at : (cells : List ℤ) (q : ℕ) (t : Base) (v : Val) (x : ℤ) → IsCell t v x → q < length cells → At (slice_set cells q x) q (cells_of v)
-scalar_at cells q t v x i lt = subst (At (slice_set cells q x) q) (sym (cells_is t v x i)) (omega (arith, length-set {A = ℤ}), get_or-set_same cells q x (pos 0) lt, tt)
+scalar_at : (cells : List ℤ) (q : ℕ) (t : Base) (v : Val) (x : ℤ) → IsScalar t → IsCell t v x → q < length cells → At (slice_set cells q x) q (cells_of v)
+scalar_at cells q t v x sc i lt = subst (At (slice_set cells q x) q) (sym (cells_is t v x sc i)) (omega (arith, length-set {A = ℤ}), get_or-set_same cells q x (pos 0) lt, tt)
 
 pub hold_length : (cells : List ℤ) (base : ℕ) (ds : List Holder) (slots : List Slot) → Hold cells base ds slots → length slots ≡ length ds
 hold_length cells base [] [] h = refl
@@ -98,24 +105,24 @@ sole_within base low high (d ∷ ds) id v o s = elim s [
 ]
 
 -- a variable is written
-pub sole_put : (cells : List ℤ) (base low high : ℕ) (ds : List Holder) (slots : List Slot) (id : ℕ) (v : Holder) (t : Base) (w : Val) (x : ℤ) → Hold cells base ds slots → InOrder base low high ds → Sole ds id v → v.ty ≡ record { lengths = []; base = t } → v.cells ≡ 1 → IsCell t w x → place_of base v.spot < length cells → Hold (slice_set cells (place_of base v.spot) x) base ds (put id w slots)
-sole_put cells base low high [] slots id v t w x h o s ty one i lt = absurd s
-sole_put cells base low high (d ∷ ds) [] id v t w x h o s ty one i lt = absurd h
-sole_put cells base low high (d ∷ ds) (s' ∷ slots) id v t w x h o s ty one i lt = elim s [
+pub sole_put : (cells : List ℤ) (base low high : ℕ) (ds : List Holder) (slots : List Slot) (id : ℕ) (v : Holder) (t : Base) (w : Val) (x : ℤ) → Hold cells base ds slots → InOrder base low high ds → Sole ds id v → v.ty ≡ record { lengths = []; base = t } → v.cells ≡ 1 → IsScalar t → IsCell t w x → place_of base v.spot < length cells → Hold (slice_set cells (place_of base v.spot) x) base ds (put id w slots)
+sole_put cells base low high [] slots id v t w x h o s ty one sc i lt = absurd s
+sole_put cells base low high (d ∷ ds) [] id v t w x h o s ty one sc i lt = absurd h
+sole_put cells base low high (d ∷ ds) (s' ∷ slots) id v t w x h o s ty one sc i lt = elim s [
   | inl a ↦ here a
-  | inr a ↦ there a (sole_put cells base (place_of base d.spot + d.cells) high ds slots id v t w x h.1 o.1 a.1 ty one i lt)
+  | inr a ↦ there a (sole_put cells base (place_of base d.spot + d.cells) high ds slots id v t w x h.1 o.1 a.1 ty one sc i lt)
 ] where
   here : (nat_eq d.id id ≡ true) × (d ≡ v) × Absent ds id → Hold (slice_set cells (place_of base v.spot) x) base (d ∷ ds) (put id w (s' ∷ slots))
   here a =
       let e : put id w (s' ∷ slots) ≡ record s' { value = w } ∷ slots =
       ap (λ y. y ∷ put id w slots) (put_here (nat_eq s'.id id) s' w (subst (λ i. nat_eq i id ≡ true) h.0.id a.0))
       ∙ ap (λ xs. record s' { value = w } ∷ xs) (absent_put cells base ds slots id w h.1 a.2) in
-      let n : length (cells_of w) ≡ 1 = ap length (cells_is t w x i) in
+      let n : length (cells_of w) ≡ 1 = ap length (cells_is t w x sc i) in
       let c : d.cells ≡ 1 = ap (λ v. v.cells) a.1 ∙ one in
       subst (Hold (slice_set cells (place_of base v.spot) x) base (d ∷ ds)) (sym e) (
         record {
           id = h.0.id;
-          cells = subst (λ u. At (slice_set cells (place_of base v.spot) x) (place_of base u.spot) (cells_of w)) (sym a.1) (scalar_at cells (place_of base v.spot) t w x i lt);
+          cells = subst (λ u. At (slice_set cells (place_of base v.spot) x) (place_of base u.spot) (cells_of w)) (sym a.1) (scalar_at cells (place_of base v.spot) t w x sc i lt);
           size = n ∙ sym c;
           form = subst (λ u. HasForm u.ty.lengths u.ty.base w) (sym a.1) (subst (λ ty. HasForm ty.lengths ty.base w) (sym ty) (form_is t w x i));
         },
@@ -140,8 +147,8 @@ sole_put cells base low high (d ∷ ds) (s' ∷ slots) id v t w x h o s ty one i
       )
 
 -- a name comes into scope, in the first free cell
-pub bound_holds : (top base d n : ℕ) (g : Scope) (m : Memory) (s : State) (id : ℕ) (ty : Ty) (t : Base) (v : Val) (x : ℤ) → d + 1 ≤ n → ty ≡ record { lengths = []; base = t } → IsCell t v x → Holds top base d n g m s → Holds top base (d + 1) n (with_local g d id ty) (put_cell (from_base base d) x m) (bind id v s)
-bound_holds top base d n g m s id ty t v x le e i h =
+pub bound_holds : (top base d n : ℕ) (g : Scope) (m : Memory) (s : State) (id : ℕ) (ty : Ty) (t : Base) (v : Val) (x : ℤ) → d + 1 ≤ n → ty ≡ record { lengths = []; base = t } → IsScalar t → IsCell t v x → Holds top base d n g m s → Holds top base (d + 1) n (with_local g d id ty) (put_cell (from_base base d) x m) (bind id v s)
+bound_holds top base d n g m s id ty t v x le e sc i h =
     let room : base + n ≤ length m.cells = h.room in
     let small : length m.cells < 2 ^ 63 = h.small in
     let apart : top ≤ base = h.apart in
@@ -154,8 +161,8 @@ bound_holds top base d n g m s id ty t v x le e i h =
           (hold_other m.cells base base (base + d) (from_base base d) x g.locals s.store.locals (inr (omega arith)) h.locals_in h.locals)
           (record {
             id = refl;
-            cells = scalar_at m.cells (from_base base d) t v x i lt;
-            size = ap length (cells_is t v x i);
+            cells = scalar_at m.cells (from_base base d) t v x sc i lt;
+            size = ap length (cells_is t v x sc i);
             form = subst (λ ty. HasForm ty.lengths ty.base v) (sym e) (form_is t v x i);
           });
       tops_in = h.tops_in;
@@ -169,8 +176,8 @@ bound_holds top base d n g m s id ty t v x le e i h =
     }
 
 -- a variable in scope is assigned
-pub assigned_holds : (top base d n : ℕ) (g : Scope) (m : Memory) (s : State) (id : ℕ) (v : Holder) (t : Base) (w : Val) (x : ℤ) → SoleIn g id v → v.ty ≡ record { lengths = []; base = t } → v.cells ≡ 1 → d ≤ n → IsCell t w x → Holds top base d n g m s → Holds top base d n g (put_cell (place_of base v.spot) x m) (assign id w s)
-assigned_holds top base d n g m s id v t w x sole ty one le i h = elim sole [
+pub assigned_holds : (top base d n : ℕ) (g : Scope) (m : Memory) (s : State) (id : ℕ) (v : Holder) (t : Base) (w : Val) (x : ℤ) → SoleIn g id v → v.ty ≡ record { lengths = []; base = t } → v.cells ≡ 1 → d ≤ n → IsScalar t → IsCell t w x → Holds top base d n g m s → Holds top base d n g (put_cell (place_of base v.spot) x m) (assign id w s)
+assigned_holds top base d n g m s id v t w x sole ty one le sc i h = elim sole [
   | inl a ↦ in_locals a
   | inr a ↦ in_tops a
 ] where
@@ -187,7 +194,7 @@ assigned_holds top base d n g m s id v t w x sole ty one le i h = elim sole [
       record {
         tops = rw (absent_put m.cells base g.tops s.store.tops id w h.tops a.1)
             (hold_other m.cells base 0 top (place_of base v.spot) x g.tops s.store.tops (inr (omega arith)) h.tops_in h.tops);
-        locals = sole_put m.cells base base (base + d) g.locals s.store.locals id v t w x h.locals h.locals_in a.0 ty one i (omega arith);
+        locals = sole_put m.cells base base (base + d) g.locals s.store.locals id v t w x h.locals h.locals_in a.0 ty one sc i (omega arith);
         tops_in = h.tops_in;
         locals_in = h.locals_in;
         used = h.used;
@@ -204,7 +211,7 @@ assigned_holds top base d n g m s id v t w x sole ty one le i h = elim sole [
       let room : base + n ≤ length m.cells = h.room in
       let apart : top ≤ base = h.apart in
       record {
-        tops = sole_put m.cells base 0 top g.tops s.store.tops id v t w x h.tops h.tops_in a.1 ty one i (omega arith);
+        tops = sole_put m.cells base 0 top g.tops s.store.tops id v t w x h.tops h.tops_in a.1 ty one sc i (omega arith);
         locals = rw (absent_put m.cells base g.locals s.store.locals id w h.locals a.0)
             (hold_other m.cells base base (base + d) (place_of base v.spot) x g.locals s.store.locals (inl (omega arith)) h.locals_in h.locals);
         tops_in = h.tops_in;

@@ -1,7 +1,8 @@
 -- The code of a function's body, and what it is for a call of it to agree with what the function means.
-use Rattle.std.specs.Prelude.{ℕ, ℤ, pos, ◌+◌, ◌<◌, ◌≤◌, ◌^◌, List, [], ◌∷◌, ◌++◌, ◌≡◌, length, slice_index_or}
+use Rattle.std.specs.Prelude.{ℕ, ℤ, pos, ◌+◌, ◌<◌, ◌≤◌, ◌^◌, List, [], ◌∷◌, ◌++◌, Option, Some, None, ◌≡◌, length, slice_index_or}
 use Rattle.zir_tree.specs.declared.value.Val.{Val}
 use Rattle.zir_tree.specs.declared.types.Base.{Base}
+use Rattle.zir_tree.specs.declared.types.Base.TheVariants.{Unit as UnitTy}
 use Rattle.zir_tree.specs.declared.types.Field.{Field}
 use Rattle.zir_tree.specs.declared.stmt.Stmt.{Stmt}
 use Rattle.zir_tree.specs.declared.stmt.Return.{Return}
@@ -15,6 +16,7 @@ use Rattle.zir_expr.specs.Memory.Frames.{Memory}
 use Rattle.zir_code.specs.declared.scope.Holder.{Holder}
 use Rattle.zir_code.specs.Scopes.{Scope}
 use Rattle.zir_code.specs.Coding.{stands, code_of}
+use Rattle.zir_code.specs.Typing.{IsScalar}
 use Rattle.zir_code.specs.Holding.{IsCell, Hold, InOrder}
 use Rattle.zir_code.specs.Statements.{stmt_code, scope_after, free_after, Fine, Fits, Stopped}
 
@@ -47,18 +49,28 @@ parameters i (p ∷ ps) = record { id = p.name.id; spot = Local i; cells = 1; ty
 abbrev pub inside : Scope → List Field → Scope
 inside g ps = record { tops = g.tops; funs = g.funs; locals = parameters 0 ps }
 
--- the code of a body with a value, which goes to the first cell of the body
-abbrev pub body_code : Scope → List Field → List Stmt → Return → List Step
+-- the code of the value of a body, if it has one, which goes to the first cell of the body
+abbrev pub result_code : Scope → ℕ → Option Return → List Step
+result_code g d None = []
+result_code g d (Some r) = code_of g r.value d ++ Copy (Local 0) (stands g r.value d) ∷ []
+
+-- the code of a body
+abbrev pub body_code : Scope → List Field → List Stmt → Option Return → List Step
 body_code g ps statements r =
     let g1 = inside g ps in
     let g2 = scope_after_all g1 (length ps) statements in
     let d2 = free_after_all (length ps) statements in
-    all_code g1 (length ps) statements ++ (code_of g2 r.value d2 ++ Copy (Local 0) (stands g2 r.value d2) ∷ [])
+    all_code g1 (length ps) statements ++ result_code g2 d2 r
+
+-- the value of a body has this type; without one it is unit
+abbrev pub ResultFits : Scope → ℕ → ℕ → Base → Option Return → Type 0
+ResultFits g d n t None = t ≡ UnitTy
+ResultFits g d n t (Some r) = Fits g d n t r.value
 
 -- a body with a value of this type is well typed in n cells
-abbrev pub FineBody : Scope → ℕ → List Field → List Stmt → Return → Base → Type 0
+abbrev pub FineBody : Scope → ℕ → List Field → List Stmt → Option Return → Base → Type 0
 FineBody g n ps statements r t =
-    FineAll (inside g ps) (length ps) n statements × Fits (scope_after_all (inside g ps) (length ps) statements) (free_after_all (length ps) statements) n t r.value
+    FineAll (inside g ps) (length ps) n statements × ResultFits (scope_after_all (inside g ps) (length ps) statements) (free_after_all (length ps) statements) n t r
 
 -- arguments stand in the cells from an index on, each of its parameter's type
 abbrev pub ArgumentsAt : List ℤ → ℕ → List Field → List Val → Type 0
@@ -66,7 +78,7 @@ ArgumentsAt cells i [] [] = Unit {0}
 ArgumentsAt cells i [] (v ∷ vs) = ⊥
 ArgumentsAt cells i (p ∷ ps) [] = ⊥
 ArgumentsAt cells i (p ∷ ps) (v ∷ vs) =
-    (t : Base) × (type_of p.ty ≡ record { lengths = []; base = t }) × IsCell t v (slice_index_or cells i (pos 0)) × ArgumentsAt cells (i + 1) ps vs
+    (t : Base) × (type_of p.ty ≡ record { lengths = []; base = t }) × IsCell t v (slice_index_or cells i (pos 0)) × IsScalar t × ArgumentsAt cells (i + 1) ps vs
 
 -- what holds where a body with these parameters begins
 pub record Begins (top base n : ℕ) (g : Scope) (ps : List Field) (vs : List Val) (m : Memory) (s : State) : Type 0 where

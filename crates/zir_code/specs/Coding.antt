@@ -196,3 +196,13 @@ abbrev mutual
   pub arguments_room : {k : _} → Scope → Row_of-Expr k → ℕ
   arguments_room g end_of-Expr = 0
   arguments_room g (more_of-Expr e es) = max (room_of g e) (arguments_room g es + 1)
+
+-- the code of a list of arguments, each into a cell of its own
+abbrev pub code_of_all : Scope → List Expr → ℕ → List Step
+code_of_all g [] d = []
+code_of_all g (e ∷ es) d = code_of g e d ++ (Copy (Local d) (stands g e d) ∷ code_of_all g es (d + 1))
+
+-- how many free cells the code of a list of arguments uses
+abbrev pub room_in_all : Scope → List Expr → ℕ
+room_in_all g [] = 0
+room_in_all g (e ∷ es) = max (room_of g e) (room_in_all g es + 1)

@@ -1,5 +1,6 @@
 -- Which expressions, statements and functions have code.
 use Rattle.std.specs.Prelude.{ℕ, ◌+◌, max, List, [], ◌∷◌, Bool, true, false, ◌&&◌, Option, Some, None, is_some, length}
+use Rattle.std.specs.List.{list_all}
 use Rattle.zir_tree.specs.declared.types.Base.{Base}
 use Rattle.zir_tree.specs.declared.types.Base.TheVariants.{Unit as UnitTy, Bit as BitTy, Bool as BoolTy, Int8, Int16, Int32, Int64, Complex16, Complex32, Struct as StructTy}
 use Rattle.zir_tree.specs.declared.types.Ty.{Ty}
@@ -61,7 +62,7 @@ is_called g (Struct k) = false
 abbrev mutual
   -- whether an expression has code
   pub is_coded : Scope → Expr → Bool
-  is_coded g (UnitLiteral p) = false
+  is_coded g (UnitLiteral p) = true
   is_coded g (Bit b p) = true
   is_coded g (BoolLiteral b p) = true
   is_coded g (Int n t p) = is_whole t
@@ -96,7 +97,7 @@ abbrev mutual
   pub does_code : Scope → ℕ → Stmt → Bool
   does_code g d (VarStmt v) = is_one_cell (type_of v.ty).lengths v.ty.base && starts_coded g v.initial
   does_code g d (Assign name path e) = is_direct path && (reads_one (variable g name.id) && is_coded g e)
-  does_code g d (Call name k es) = false
+  does_code g d (Call name k es) = is_some (g.funs k) && list_all (is_coded g) es
   does_code g d (Error text p) = true
   does_code g d (If' e _ a p) = is_coded g e && row_codes g d a
   does_code g d (IfElse' e _ a _ b p) = is_coded g e && (row_codes g d a && row_codes g d b)

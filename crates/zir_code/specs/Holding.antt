@@ -1,6 +1,6 @@
 -- How cells hold what is in scope, and what it is for code to agree with a meaning.
 use Rattle.std.specs.Prelude.{ℕ, ℤ, pos, ◌+◌, ◌<◌, ◌≤◌, ◌^◌, List, [], ◌∷◌, Bool, ◌≡◌, length, slice_index_or}
-use Rattle.zir_tree.specs.declared.value.Val.{Val, Bit as BitVal, Bool as BoolVal, Num}
+use Rattle.zir_tree.specs.declared.value.Val.{Val, Unit as UnitVal, Bit as BitVal, Bool as BoolVal, Num}
 use Rattle.zir_tree.specs.declared.value.Slot.{Slot}
 use Rattle.zir_tree.specs.declared.types.Base.{Base}
 use Rattle.zir_tree.specs.declared.types.Base.TheVariants.{Unit as UnitTy, Bit as BitTy, Bool as BoolTy, Int8, Int16, Int32, Int64, Complex16, Complex32, Struct as StructTy}
@@ -18,9 +18,9 @@ abbrev pub At : List ℤ → ℕ → List ℤ → Type 0
 At cells i [] = Unit {0}
 At cells i (x ∷ xs) = (i < length cells) × (slice_index_or cells i (pos 0) ≡ x) × At cells (i + 1) xs
 
--- a value of this type, which is no array and no struct, and the one cell that is it
+-- a value of this type, which is no array and no struct, and the one cell that is it; the unit value has no cell, and any may stand in its place
 abbrev pub IsCell : Base → Val → ℤ → Type 0
-IsCell UnitTy v x = ⊥
+IsCell UnitTy v x = v ≡ UnitVal
 IsCell BitTy v x = (b : Bool) × (v ≡ BitVal b) × (x ≡ cell_of b)
 IsCell BoolTy v x = (b : Bool) × (v ≡ BoolVal b) × (x ≡ cell_of b)
 IsCell Int8 v x = v ≡ Num x

@@ -1,5 +1,5 @@
 -- The laws of code: it does what the program's expressions, statements and functions mean.
-use Rattle.std.specs.Prelude.{ℕ, ◌+◌, ◌≤◌, List, Option, None}
+use Rattle.std.specs.Prelude.{ℕ, ◌+◌, ◌≤◌, List, Option, None, true, ◌≡◌}
 use Rattle.zir_tree.specs.declared.types.Base.{Base}
 use Rattle.zir_tree.specs.declared.types.StructDef.{StructDef}
 use Rattle.zir_tree.specs.declared.expr.Expr.{Expr}
@@ -20,6 +20,7 @@ use Rattle.zir_code.specs.Holding.{Holds, Agrees}
 use Rattle.zir_code.specs.Statements.{AgreesStmt}
 use Rattle.zir_code.specs.Bodies.{all_code, scope_after_all, free_after_all, FineAll}
 use Rattle.zir_code.specs.Calls.{AllTop, Calls}
+use Rattle.zir_code.specs.Forms.{is_coded}
 use Rattle.zir_code.specs.Program.{HaveSignatures, more_signatures}
 
 -- where the code of each function does what it means, and the cells hold what is in scope, the code of a typed expression for which there is room
@@ -43,3 +44,7 @@ FunctionsAgree =
     (top : ℕ) (structs : List StructDef) (tops : List Holder) (functions : List Function) (signatures : List (Option Signature)) →
     AllTop tops → HaveSignatures tops (λ k. None) 0 functions signatures →
     Calls top (library_of structs functions) tops (more_signatures (λ k. None) 0 signatures)
+
+-- an expression that has a type has code
+abbrev pub TypedHaveCode : Type 0
+TypedHaveCode = (g : Scope) (n : ℕ) (t : Base) (e : Expr) → Has g n t e → is_coded g e ≡ true

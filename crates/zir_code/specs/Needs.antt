@@ -5,7 +5,7 @@ use Rattle.zir_tree.specs.declared.types.Field.{Field}
 use Rattle.zir_tree.specs.declared.stmt.Stmt.{Stmt, Var as VarStmt, Assign, Call, Error, If', IfElse', While', For', Row_of-Stmt, end_of-Stmt, more_of-Stmt}
 use Rattle.zir_tree.specs.declared.stmt.Return.{Return}
 use Rattle.zir_code.specs.Scopes.{Scope}
-use Rattle.zir_code.specs.Coding.{room_of}
+use Rattle.zir_code.specs.Coding.{needs_of, room_of, room_in_all}
 use Rattle.zir_code.specs.Statements.{free_after}
 use Rattle.zir_code.specs.Bodies.{free_after_all}
 
@@ -19,7 +19,7 @@ abbrev mutual
   pub needs_cells : Scope → ℕ → Stmt → ℕ
   needs_cells g d (VarStmt v) = max (d + 1) (starts_needs g d v.initial)
   needs_cells g d (Assign name path e) = d + room_of g e
-  needs_cells g d (Call name k es) = d
+  needs_cells g d (Call name k es) = d + max (needs_of (g.funs k)) (room_in_all g es)
   needs_cells g d (Error text p) = d
   needs_cells g d (If' e _ a p) = max (d + room_of g e) (row_needs g d a)
   needs_cells g d (IfElse' e _ a _ b p) = max (d + room_of g e) (max (row_needs g d a) (row_needs g d b))
@@ -36,6 +36,11 @@ abbrev pub all_needs : Scope → ℕ → List Stmt → ℕ
 all_needs g d [] = d
 all_needs g d (a ∷ more) = max (needs_cells g d a) (all_needs g (free_after d a) more)
 
--- the same for a body with a value
-abbrev pub body_needs : Scope → List Field → List Stmt → Return → ℕ
-body_needs g params statements r = max (all_needs g (length params) statements) (free_after_all (length params) statements + room_of g r.value)
+-- the same for the value of a body, if it has one
+abbrev pub result_needs : Scope → ℕ → Option Return → ℕ
+result_needs g d None = d
+result_needs g d (Some r) = d + room_of g r.value
+
+-- the same for a body
+abbrev pub body_needs : Scope → List Field → List Stmt → Option Return → ℕ
+body_needs g params statements r = max (all_needs g (length params) statements) (result_needs g (free_after_all (length params) statements) r)

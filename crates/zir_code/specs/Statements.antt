@@ -1,5 +1,5 @@
 -- The code of statements over bits, truth values and whole numbers, which of them are well typed, and what it is for their code to agree.
-use Rattle.std.specs.Prelude.{ℕ, pos, ◌+◌, ◌<◌, ◌≤◌, List, [], ◌∷◌, ◌++◌, true, false, Option, Some, None, ◌≡◌, ◌⊎◌, nat_eq, length, slice_index_or}
+use Rattle.std.specs.Prelude.{ℕ, pos, ◌+◌, max, ◌<◌, ◌≤◌, List, [], ◌∷◌, ◌++◌, true, false, Option, Some, None, ◌≡◌, ◌⊎◌, nat_eq, length, slice_index_or}
 use Rattle.zir_tree.specs.declared.types.Base.{Base}
 use Rattle.zir_tree.specs.declared.types.Base.TheVariants.{Bool as BoolTy, Int32}
 use Rattle.zir_tree.specs.declared.types.Ty.{Ty}
@@ -14,9 +14,10 @@ use Rattle.zir_expr.specs.declared.steps.Step.{Step, Number, Copy, Fail, Branch,
 use Rattle.zir_expr.specs.Memory.{Ran, Done, Trapped, Out}
 use Rattle.zir_expr.specs.Memory.Frames.{Memory}
 use Rattle.zir_code.specs.declared.scope.Holder.{Holder}
+use Rattle.zir_code.specs.declared.scope.Signature.{Signature}
 use Rattle.zir_code.specs.Scopes.{Scope, variable}
-use Rattle.zir_code.specs.Coding.{stands, code_of, room_of}
-use Rattle.zir_code.specs.Typing.{IsScalar, Has}
+use Rattle.zir_code.specs.Coding.{stands, code_of, room_of, call_code, needs_of, code_of_all, room_in_all}
+use Rattle.zir_code.specs.Typing.{IsScalar, Has, AllFit}
 use Rattle.zir_code.specs.Holding.{Hold, Holds}
 
 -- one more name in scope, in the first free cell
@@ -56,11 +57,11 @@ to_variable None x = []
 to_variable (Some v) x = Copy v.spot x ∷ []
 
 abbrev mutual
-  -- the code of a statement, whose cells from d on are free; calls have none yet
+  -- the code of a statement, whose cells from d on are free
   pub stmt_code : Scope → ℕ → Stmt → List Step
   stmt_code g d (VarStmt v) = initial_code g d v.initial
   stmt_code g d (Assign name path e) = code_of g e d ++ to_variable (variable g name.id) (stands g e d)
-  stmt_code g d (Call name k es) = []
+  stmt_code g d (Call name k es) = code_of_all g es d ++ call_code (g.funs k) d
   stmt_code g d (Error text p) = Fail 5 p ∷ []
   stmt_code g d (If' e _ a p) = code_of g e d ++ Branch (record { test = stands g e d; first = row_code g d a; second = [] }) ∷ []
   stmt_code g d (IfElse' e _ a _ b p) = code_of g e d ++ Branch (record { test = stands g e d; first = row_code g d a; second = row_code g d b }) ∷ []
@@ -108,12 +109,12 @@ InitialFits g d n t None = Unit {0}
 InitialFits g d n t (Some e) = Fits g d n t e
 
 abbrev mutual
-  -- a statement without calls, over bits, truth values and whole numbers alone, is well typed in n cells, those from d on being free
+  -- a statement over bits, truth values, whole numbers and unit alone is well typed in n cells, those from d on being free
   pub Fine : Scope → ℕ → ℕ → Stmt → Type 0
   Fine g d n (VarStmt v) = (t : Base) × (type_of v.ty ≡ record { lengths = []; base = t }) × IsScalar t × (d + 1 ≤ n) × InitialFits g d n t v.initial
   Fine g d n (Assign name path e) =
-      (path ≡ []) × (t : Base) × (v : Holder) × (variable g name.id ≡ Some v) × SoleIn g name.id v × (v.ty ≡ record { lengths = []; base = t }) × (v.cells ≡ 1) × Fits g d n t e
-  Fine g d n (Call name k es) = ⊥
+      (path ≡ []) × (t : Base) × (v : Holder) × (variable g name.id ≡ Some v) × SoleIn g name.id v × (v.ty ≡ record { lengths = []; base = t }) × (v.cells ≡ 1) × Fits g d n t e × IsScalar t
+  Fine g d n (Call name k es) = (f : Signature) × (g.funs k ≡ Some f) × AllFit g n f.params es × (d + max (needs_of (g.funs k)) (room_in_all g es) ≤ n)
   Fine g d n (Error text p) = Unit {0}
   Fine g d n (If' e _ a p) = Fits g d n BoolTy e × FineRow g d n a
   Fine g d n (IfElse' e _ a _ b p) = Fits g d n BoolTy e × FineRow g d n a × FineRow g d n b

@@ -98,9 +98,9 @@ CalleeFits g n t (Function k) fit = (f : Signature) × (g.funs k ≡ Some f) × 
 CalleeFits g n t (Struct k) fit = ⊥
 
 abbrev mutual
-  -- an expression of bits, truth values and whole numbers alone has this type over these variables, in n cells
+  -- an expression of bits, truth values, whole numbers and unit alone has this type over these variables, in n cells
   pub Has : Scope → ℕ → Base → Expr → Type 0
-  Has g n t (UnitLiteral p) = ⊥
+  Has g n t (UnitLiteral p) = t ≡ UnitTy
   Has g n t (Bit b p) = t ≡ BitTy
   Has g n t (BoolLiteral b p) = t ≡ BoolTy
   Has g n t (Int k u p) = (t ≡ u) × IsWholeType u
@@ -121,3 +121,10 @@ abbrev mutual
   ArgumentsFit g n [] (more_of-Expr e es) = ⊥
   ArgumentsFit g n (t ∷ ts) end_of-Expr = ⊥
   ArgumentsFit g n (t ∷ ts) (more_of-Expr e es) = Has g n t e × ArgumentsFit g n ts es
+
+-- the same for a list of arguments
+abbrev pub AllFit : Scope → ℕ → List Base → List Expr → Type 0
+AllFit g n [] [] = Unit {0}
+AllFit g n [] (e ∷ es) = ⊥
+AllFit g n (t ∷ ts) [] = ⊥
+AllFit g n (t ∷ ts) (e ∷ es) = Has g n t e × AllFit g n ts es

@@ -3,7 +3,7 @@
 
 pub mod scope;
 
-ghost use Rattle.zir_code.specs.Laws.{ExpressionsAgree, StatementsAgree, FunctionsAgree};
+ghost use Rattle.zir_code.specs.Laws.{ExpressionsAgree, StatementsAgree, FunctionsAgree, TypedHaveCode};
 
 /// The code of an expression does what the expression means: the steps end with its value in the cell where it stands, by the same
 /// trap, or with the budget spent, and leave all cells before the free ones as they were.
@@ -20,4 +20,9 @@ pub fn statements_agree()
 /// The code of each function of a program does what the function means in it.
 pub fn functions_agree()
     ensures { FunctionsAgree }
+{}
+
+/// An expression that has a type has code.
+pub fn typed_have_code()
+    ensures { TypedHaveCode }
 {}
