@@ -7,8 +7,6 @@ use Rattle.std.proofs.Common.{ap, ◌∙◌}
 use Rattle.std.specs.Int.{int_wrap}
 use mir.Syntax.{w32}
 use denote.Hole.Carrier.{hidden}
-use Rattle.std.specs.declared.alloc.Global.{Global}
-use Rattle.std.specs.declared.sync.Arc.{Arc}
 use Rattle.zir_expr.specs.declared.frame.Halt.{Halt}
 use Rattle.zir_expr.specs.declared.frame.Halt.TheVariants.{Trap, Spent}
 use Rattle.zir_expr.specs.declared.frame.Spot.{Spot}
@@ -17,7 +15,7 @@ use Rattle.zir_expr.specs.declared.steps.Fork.{Fork}
 use Rattle.zir_expr.specs.declared.steps.Turn.{Turn}
 use Rattle.zir_expr.specs.declared.steps.Counting.{Counting}
 use Rattle.zir_expr.specs.declared.steps.Step.{Step, Branch, While, Count, Call}
-use Rattle.zir_expr.specs.declared.steps.Step.TheBlock.{shape-the_row-Step-0, hidden-the_row-Step-0}
+use Rattle.zir_expr.specs.declared.steps.Step.TheBlock.{shape-the_row-Step-0, hidden-the_row-Step-0, shape-the_row-Code-1, hidden-the_row-Code-1}
 use Rattle.zir_expr.specs.Answers.{is_set}
 use Rattle.zir_expr.specs.Memory.{Ran, Done, then_run, halted, from_base, place_of, cell_at, ticked, put_cell}
 use Rattle.zir_expr.specs.Memory.Frames.{Memory}
@@ -57,9 +55,16 @@ pub go-Count : (k : Counting) (base : ℕ) (m : Memory) →
 go-Count k base m = ap (λ (body : (Memory →
     Ran)). go_counted (turns_in (cell_at (place_of base k.turns) m)) (cell_at (place_of base k.index) m) k.index base body m) (same_code k.body base)
 
-pub call_goes : (c : Arc Code Global) (at base : ℕ) (m m1 : Memory) → ticked m ≡ Done m1 → go (Call c at) base m ≡ go_all c.value.steps (from_base base at) m1
-call_goes c at base m m1 h = ap (λ r. then_run r (go_row (hidden-the_row-Step-0 c.value.steps) (from_base base at))) h
-    ∙ row-all c.value.steps (from_base base at) m1
+-- a call is a tick and the code
+pub go-Call : (c : Code) (at base : ℕ) (m : Memory) → go (Call c at) base m ≡ then_run (ticked m) (go_all c.steps (from_base base at))
+unfolding shape-the_row-Code-1 hidden-the_row-Code-1 hidden
+go-Call c at base m = ap (then_run (ticked m)) (funext _ _ (λ m1. row-all c.steps (from_base base at) m1))
+
+pub call_goes : (c : Code) (at base : ℕ) (m m1 : Memory) → ticked m ≡ Done m1 → go (Call c at) base m ≡ go_all c.steps (from_base base at) m1
+call_goes c at base m m1 h = go-Call c at base m ∙ ap (λ r. then_run r (go_all c.steps (from_base base at))) h
+
+pub call_halts : (c : Code) (at base : ℕ) (h : Halt) (m m1 : Memory) → ticked m ≡ halted h m1 → go (Call c at) base m ≡ halted h m1
+call_halts c at base h m m1 e = go-Call c at base m ∙ ap (λ r. then_run r (go_all c.steps (from_base base at))) e ∙ stops h m1 _
 
 set_if : (b : Bool) (P : Type 0) → Decides b P → (P → ⊥) → not b ≡ true
 set_if true P d ne = absurd (ne (d.0 refl))

@@ -12,7 +12,7 @@ use Rattle.zir_expr.specs.declared.steps.Elements.{Elements}
 use Rattle.zir_expr.specs.declared.steps.Fork.{Fork}
 use Rattle.zir_expr.specs.declared.steps.Turn.{Turn}
 use Rattle.zir_expr.specs.declared.steps.Counting.{Counting}
-use Rattle.zir_expr.specs.declared.steps.Step.{Step, Number, Copy, Move, Change as ChangeStep, Operate, Complex, Locate, Load, Store, Fail, Branch', While', Count', Call', Row_of-Step, end_of-Step, more_of-Step}
+use Rattle.zir_expr.specs.declared.steps.Step.{Step, Number, Copy, Move, Change as ChangeStep, Operate, Complex, Locate, Load, Store, Fail, Branch', While', Count', Call', Row_of-Step, end_of-Step, more_of-Step, end_of-Code, more_of-Code}
 use Rattle.zir_expr.specs.Answers.{is_set}
 use Rattle.zir_expr.specs.Memory.{cell_at, put_cell, after, moved, from_base, place_of, address_of, Ran, Done, Out, then_run, ticked, trapped}
 use Rattle.zir_expr.specs.Memory.Frames.{Memory}
@@ -113,7 +113,7 @@ abbrev mutual
   go (While' _ test c _ body) base m = go_turns (m.limit - m.used) (go_row test base) c base (go_row body base) m
   go (Count' turns index _ body) base m = go_counted (turns_in (cell_at (place_of base turns) m)) (cell_at (place_of base index) m) index base
       (go_row body base) m
-  go (Call' q _ steps at) base m = then_run (ticked m) (go_row steps (from_base base at))
+  go (Call' _ (more_of-Code _ steps end_of-Code) at) base m = then_run (ticked m) (go_row steps (from_base base at))
 
   -- steps one after the other
   pub go_row : {n : _} → Row_of-Step n → ℕ → Memory → Ran

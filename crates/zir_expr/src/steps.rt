@@ -11,7 +11,7 @@ use crate::frame::{Frame, Halt, Spot, index_of};
 use crate::scalar::{Change, Operation};
 use crate::whole::Whole;
 use sqlite_items::Items;
-use std::sync::Arc;
+use zir_shared::Shared;
 use zir_tree::place::Place;
 
 /// Where the elements of an array are looked for: each has so many cells, and an index is one of so many.
@@ -55,7 +55,7 @@ pub enum Step {
     /// A loop that counts.
     Count(Counting),
     /// A call of code whose cells begin at an offset in those of the caller.
-    Call(Arc<Code>, u32),
+    Call(Shared<Code>, u32),
 }
 
 /// The code of a body.
@@ -149,7 +149,7 @@ fn run_one(step: &Step, frame: &mut Frame, base: usize) -> Result<(), Halt>
         Step::Count(counting) => count_turns(counting, frame, base),
         Step::Call(code, at) => {
             frame.tick()?;
-            run(code.steps.as_slice(), frame, index_of(base, *at))
+            run(code.get().steps.as_slice(), frame, index_of(base, *at))
         }
     }
 }

@@ -6,8 +6,8 @@ use crate::truth::Bitwise;
 use crate::whole::{Whole, lowest_bit};
 use sqlite_items::Items;
 use std::alloc::{AllocError, Global};
-use std::sync::Arc;
 use std::test::Fail;
+use zir_shared::Shared;
 use zir_tree::expr::Operator;
 use zir_tree::place::Place;
 
@@ -156,7 +156,7 @@ fn sum_of_indexes(alloc: Global, turns: i64) -> Result<Vec<Step>, AllocError> {
     let mut called = Items::new(alloc);
     let operation = Operation::Whole(Operator::Add, Whole::ThirtyTwo);
     called.push(Step::Operate(operation, Spot::Top(0), Spot::Top(0), Spot::Local(0), AT))?;
-    let code = Arc::new(alloc, Code { steps: called })?;
+    let code = Shared::new(alloc, Code { steps: called })?;
     let mut body = Items::new(alloc);
     body.push(Step::Copy(Spot::Local(2), Spot::Local(1)))?;
     body.push(Step::Call(code, 2))?;

@@ -4,7 +4,7 @@ use Rattle.std.proofs.lemmas.Result.{err_from_is_err_and}
 use Rattle.zir_expr.specs.Answers.{is_set}
 use Rattle.zir_expr.specs.Memory.{Done, ended, halted, place_of, cell_at, put_cell}
 use Rattle.zir_expr.specs.Running.{go_all, go_turns, go_counted}
-use Rattle.zir_expr.proofs.Going.{go-Branch, go-While, go-Count, call_goes, is_set_at, turn_goes, tick_stops, body_stops, count_goes, count_stops, counting_by}
+use Rattle.zir_expr.proofs.Going.{go-Branch, go-While, go-Count, call_goes, is_set_at, turn_goes, tick_stops, body_stops, count_goes, call_halts, count_stops, counting_by}
 use Rattle.zir_expr.proofs.steps.+going.Goals as goal
 
 pub count_turns-loop-past-preserved : goal.count_turns-loop-past-preserved
@@ -53,11 +53,16 @@ run_one-returns-in-While t c = rw c.in-While.is (go-While c.in-While.turn _ _ �
 pub run_one-returns-in-Count : goal.run_one-returns-in-Count
 run_one-returns-in-Count t c = rw c.in-Count.is (go-Count c.in-Count.counting _ _ ∙ c.count_turns.ensures)
 
+pub run_one-returns-in_err-tick-in-Call : goal.run_one-returns-in_err-tick-in-Call
+run_one-returns-in_err-tick-in-Call t c =
+    let p = err_from_is_err_and c.from_residual.result c.from_residual.ensures.1 in
+    rw (c.in-Call.is, p.1, p.2) (call_halts c.in-Call.code c.in-Call.at c.args.base _ _ _ c.in_err-tick-in-Call.ensures)
+
 pub run_one-returns-in_ok-tick-in-Call : goal.run_one-returns-in_ok-tick-in-Call
 run_one-returns-in_ok-tick-in-Call t c =
-    let b : c.as_slice.result.now ≡ c.in-Call.code.value.steps = search rules in
+    let b : c.as_slice.result.now ≡ c.in-Call.code.steps = search rules in
     rw c.in-Call.is (call_goes c.in-Call.code c.in-Call.at c.args.base _ _ c.in_ok-tick-in-Call.ensures
-    ∙ subst (λ q. go_all c.in-Call.code.value.steps q c.tick.new.self ≡ ended c.run.result c.run.new.frame) c.index_of.ensures
+    ∙ subst (λ q. go_all c.in-Call.code.steps q c.tick.new.self ≡ ended c.run.result c.run.new.frame) c.index_of.ensures
     (subst (λ ss. go_all ss c.index_of.result c.tick.new.self ≡ ended c.run.result c.run.new.frame) b c.run.ensures))
 
 pub take_turns-returns-in_err-tick : goal.take_turns-returns-in_err-tick

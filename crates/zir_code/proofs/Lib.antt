@@ -1,0 +1,10 @@
+pub mod Arguments
+pub mod Bodies
+pub mod Calls
+pub mod Forms
+pub mod Kept
+pub mod Operating
+pub mod Program
+pub mod Simulation
+pub mod Statements
+pub mod Stores

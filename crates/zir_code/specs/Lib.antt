@@ -1,0 +1,11 @@
+pub mod Scopes
+pub mod Coding
+pub mod Typing
+pub mod Holding
+pub mod Statements
+pub mod Bodies
+pub mod Calls
+pub mod Program
+pub mod Laws
+pub mod Forms
+pub mod Needs

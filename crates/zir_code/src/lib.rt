@@ -1,0 +1,28 @@
+//! Expressions, statements and functions as steps over cells: the code of each as a definition, and the laws that it does what they mean.
+#![tactic(auto)]
+
+pub mod scope;
+
+ghost use Rattle.zir_code.specs.Laws.{ExpressionsAgree, StatementsAgree, FunctionsAgree, TypedHaveCode};
+
+/// The code of an expression does what the expression means: the steps end with its value in the cell where it stands, by the same
+/// trap, or with the budget spent, and leave all cells before the free ones as they were.
+pub fn expressions_agree()
+    ensures { ExpressionsAgree }
+{}
+
+/// The code of statements does what they mean: the steps end with the cells of every variable in scope holding its value, by the same
+/// trap, or with the budget spent.
+pub fn statements_agree()
+    ensures { StatementsAgree }
+{}
+
+/// The code of each function of a program does what the function means in it.
+pub fn functions_agree()
+    ensures { FunctionsAgree }
+{}
+
+/// An expression that has a type has code.
+pub fn typed_have_code()
+    ensures { TypedHaveCode }
+{}
