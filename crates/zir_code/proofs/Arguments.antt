@@ -1,6 +1,6 @@
 -- Arguments as lists.
-use Rattle.std.specs.Prelude.{ℕ, zero, ◌+◌, ◌≤◌, max, List, [], ◌∷◌, ◌++◌, ◌≡◌, refl, length}
-use Rattle.std.proofs.Common.{ap, ◌∙◌, sym, subst, arith}
+use Rattle.std.specs.Prelude.{ℕ, ◌+◌, ◌≤◌, max, List, [], ◌∷◌, ◌++◌, ◌≡◌, refl}
+use Rattle.std.proofs.Common.{ap, subst, arith}
 use denote.Hole.Carrier.{hidden}
 use Rattle.zir_tree.specs.declared.value.Val.{Val}
 use Rattle.zir_tree.specs.declared.types.Base.{Base}
@@ -14,10 +14,9 @@ use Rattle.zir_expr.specs.declared.steps.Step.{Step, Copy}
 use Rattle.zir_expr.specs.Memory.{Ran, then_run}
 use Rattle.zir_expr.specs.Memory.Frames.{Memory}
 use Rattle.zir_expr.specs.Running.{go_all}
-use Rattle.zir_expr.proofs.Going.{funext}
 use Rattle.zir_code.specs.Scopes.{Scope}
 use Rattle.zir_code.specs.Coding.{stands, code_of, room_of, arguments_code, arguments_room, code_of_all, room_in_all}
-use Rattle.zir_code.specs.Typing.{Has, ArgumentsFit, AllFit}
+use Rattle.zir_code.specs.Typing.{ArgumentsFit, AllFit}
 use Rattle.zir_code.specs.Holding.{Holds, Kept, Agrees}
 use Rattle.zir_code.specs.Calls.{CellsAre, Calls}
 use Rattle.zir_code.proofs.Kept.{holds_kept}

@@ -1,9 +1,8 @@
 -- A call of code does what the function means whose body the code is.
-use Rattle.std.specs.Prelude.{ℕ, suc, ℤ, pos, ◌+◌, ◌<◌, ◌≤◌, ◌^◌, List, [], ◌∷◌, ◌++◌, Option, Some, None, ◌≡◌, ◌≢◌, refl, length, slice_index_or, slice_set}
+use Rattle.std.specs.Prelude.{ℕ, suc, ℤ, pos, ◌+◌, ◌<◌, ◌≤◌, ◌^◌, List, [], ◌∷◌, Option, Some, None, ◌≡◌, ◌≢◌, refl, length, slice_index_or, slice_set}
 use Rattle.std.proofs.Common.{ap, ◌∙◌, sym, subst, arith, inr, get_or-set_other, get_or-set_same, length-set}
 use Rattle.zir_tree.specs.declared.value.Val.{Val, Unit as UnitVal}
 use Rattle.zir_tree.specs.declared.types.Base.{Base}
-use Rattle.zir_tree.specs.declared.types.Base.TheVariants.{Unit as UnitTy}
 use Rattle.zir_tree.specs.declared.types.Field.{Field}
 use Rattle.zir_tree.specs.declared.stmt.Stmt.{Stmt}
 use Rattle.zir_tree.specs.declared.stmt.Return.{Return}
@@ -13,7 +12,7 @@ use Rattle.zir_meaning.specs.Statements.{left_by, does, does_all, result_of, run
 use Rattle.zir_meaning.specs.Functions.{arguments, entered, returned, called_fun}
 use Rattle.zir_expr.specs.declared.frame.Spot.{Spot}
 use Rattle.zir_expr.specs.declared.frame.Spot.TheVariants.{Local}
-use Rattle.zir_expr.specs.declared.steps.Step.{Step, Copy}
+use Rattle.zir_expr.specs.declared.steps.Step.{Copy}
 use Rattle.zir_expr.specs.Memory.{Ran, Done, Trapped, Out, then_run, cell_at, from_base, place_of}
 use Rattle.zir_expr.specs.Memory.Frames.{Memory}
 use Rattle.zir_expr.specs.Running.{go_all}

@@ -1,6 +1,6 @@
 -- Arguments in their cells, and calls.
 use Rattle.std.specs.Prelude.{ℕ, zero, suc, ℤ, pos, ◌+◌, ◌<◌, ◌≤◌, ◌^◌, List, [], ◌∷◌, ◌++◌, Bool, true, false, Some, nat_lt, ◌≡◌, refl, length, slice_index_or}
-use Rattle.std.proofs.Common.{ap, ◌∙◌, sym, subst, arith}
+use Rattle.std.proofs.Common.{◌∙◌, sym, subst, arith}
 use Rattle.std.proofs.lemmas.Bool.Decides.{nat_tests}
 use Rattle.zir_tree.specs.declared.value.Val.{Val}
 use Rattle.zir_tree.specs.declared.value.Slot.{Slot}
@@ -9,9 +9,8 @@ use Rattle.zir_meaning.specs.Trace.{State}
 use Rattle.zir_meaning.specs.Evaluation.{Eval, Got, Traps, RunsOut, Library, tick_eval, tick_eval_of}
 use Rattle.zir_expr.specs.declared.frame.Spot.{Spot}
 use Rattle.zir_expr.specs.declared.frame.Spot.TheVariants.{Top, Local}
-use Rattle.zir_expr.specs.declared.steps.Code.{Code}
 use Rattle.zir_expr.specs.declared.steps.Step.{Call}
-use Rattle.zir_expr.specs.Memory.{Ran, Done, Trapped, Out, then_run, ticked, tick_if, cell_at, from_base, place_of}
+use Rattle.zir_expr.specs.Memory.{Ran, Done, Trapped, Out, then_run, tick_if, cell_at, from_base, place_of}
 use Rattle.zir_expr.specs.Memory.Frames.{Memory}
 use Rattle.zir_expr.specs.Running.{go, go_all}
 use Rattle.zir_expr.proofs.Going.{go-Call}

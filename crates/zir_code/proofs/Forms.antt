@@ -1,17 +1,16 @@
 -- What is well typed has code.
-use Rattle.std.specs.Prelude.{ℕ, List, [], ◌∷◌, Bool, true, false, ◌&&◌, Option, Some, None, is_some, ◌≡◌, ◌⊎◌, refl}
-use Rattle.std.proofs.Common.{ap, sym, ◌∙◌, subst, inl, inr}
+use Rattle.std.specs.Prelude.{ℕ, List, [], ◌∷◌, Bool, true, ◌&&◌, Option, Some, is_some, ◌≡◌, refl}
+use Rattle.std.proofs.Common.{ap, ◌∙◌, inl, inr}
 use Rattle.zir_tree.specs.declared.types.Base.{Base}
 use Rattle.zir_tree.specs.declared.types.Base.TheVariants.{Unit as UnitTy, Bit as BitTy, Bool as BoolTy, Int8, Int16, Int32, Int64, Complex16, Complex32, Struct as StructTy}
 use Rattle.zir_tree.specs.declared.types.Ty.{Ty}
-use Rattle.zir_tree.specs.declared.expr.Callee.{Callee}
 use Rattle.zir_tree.specs.declared.expr.Callee.TheVariants.{Function, Struct}
 use Rattle.zir_tree.specs.declared.expr.Expr.{Expr, Unit as UnitLiteral, Bit, Bool as BoolLiteral, Int, Variable, Unary', Binary', Index', Slice', Part', Call', Array', Convert', Complex', Row_of-Expr, end_of-Expr, more_of-Expr}
 use Rattle.zir_code.specs.declared.scope.Holder.{Holder}
 use Rattle.zir_code.specs.declared.scope.Signature.{Signature}
 use Rattle.zir_code.specs.Scopes.{Scope, variable}
 use Rattle.zir_code.specs.Typing.{IsWholeType, IsScalar, Has, ArgumentsFit}
-use Rattle.zir_code.specs.Forms.{is_whole, is_scalar, is_one_cell, reads_one, is_called, is_coded, are_coded}
+use Rattle.zir_code.specs.Forms.{is_whole, is_scalar, is_one_cell, reads_one, is_coded, are_coded}
 
 whole_is : (t : Base) → IsWholeType t → is_whole t ≡ true
 whole_is UnitTy h = absurd h

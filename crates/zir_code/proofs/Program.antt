@@ -16,7 +16,7 @@ use Rattle.zir_expr.specs.Running.{go_all}
 use Rattle.zir_code.specs.declared.scope.Holder.{Holder}
 use Rattle.zir_code.specs.declared.scope.Signature.{Signature}
 use Rattle.zir_code.specs.Holding.{Agrees}
-use Rattle.zir_code.specs.Bodies.{ArgumentsAt, body_code}
+use Rattle.zir_code.specs.Bodies.{ArgumentsAt}
 use Rattle.zir_code.specs.Calls.{CellsAre, AllTop, bare, CallBegins, Calls}
 use Rattle.zir_code.specs.Program.{ParametersAre, at_top, HasSignature, one_more_signature, FitsSignature, HaveSignatures, more_signatures}
 use Rattle.zir_code.proofs.Bodies.{body_agrees}
