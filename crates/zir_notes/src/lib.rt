@@ -1,4 +1,4 @@
-//! The notes that say how a run ended.
+//! The notes that say how a run ended and why a text is refused, and texts that go to a sink in pieces.
 #![tactic(auto)]
 
 ghost use Rattle.std.specs.Prelude.{◌≡◌, ◌+◌, ◌≤◌, ◌++◌, codes, length, OnErr, OnOk};
@@ -8,8 +8,14 @@ ghost use Rattle.zir_outside.specs.Sinks.{Grew, GrewPart, Tells};
 ghost use Rattle.zir_bit_meaning.specs.Notes.{counts_of, line_of, note_of, number_line, spelling_of};
 ghost use Rattle.zir_notes.specs.Endings.{run_end_of};
 
+mod put;
+mod refused;
+pub mod reports;
+
 use arrayvec::ArrayString;
 use itoa::Buffer;
+pub use put::put_in_pieces;
+pub use refused::write_refusal;
 use zir_bit_tree::value::Val;
 use zir_outside::{Failed, Sink};
 
