@@ -21,7 +21,7 @@ use zir_tree::stmt::Var;
 use zir_tree::types::{Field, TypeExpr};
 
 /// The canonical text of a program: its tokens with one space between each two, a line for each declaration and one for
-/// main. Whole numbers are decimal, and parentheses stand only where they are needed.
+/// main. Whole numbers are decimal, and parentheses stand only where they are needed. Its one error is want of memory.
 pub fn print(alloc: Global, p: &Prog) -> Result<Vec<u8>, AllocError>
     ensures { IfOk result (λ bytes. bytes.items ≡ canonical_text p.now) }
 {

@@ -3,7 +3,7 @@
 ghost use Rattle.std.specs.Prelude.{◌≡◌, [], ◌∷◌, map, OnOk};
 ghost use Rattle.zir_lex.specs.declared.token.Symbol.TheVariants.{Semicolon};
 ghost use Rattle.zir_grammar.specs.Grammar.{link_rank, link_symbol};
-ghost use Rattle.zir_print.specs.Marks.{behind_each, enclosed, held, link_word, mark, parted};
+ghost use Rattle.zir_print.specs.Marks.{enclosed, held, link_word, mark, parted};
 ghost use Rattle.zir_print.specs.Components.{comp_kind, comp_words, member_words, turning_word};
 ghost use Rattle.zir_print.specs.Types.{ident_word};
 ghost use Rattle.zir_print.specs.Expressions.{expr_words};
@@ -137,7 +137,7 @@ pub fn put_comp(text: &mut Text, c: &Comp) -> Result<(), AllocError>
         }
         Comp::Map(name, _, _) => put_with_name(text, Keyword::Map, name),
         Comp::Filter(name, _, _) => put_with_name(text, Keyword::Filter, name),
-        Comp::Call(name, _, arguments) => put_call(text, &name.name, arguments.as_slice()),
+        Comp::Call(name, _, arguments) => put_call(text, name, arguments.as_slice()),
         Comp::Block(members, _) => {
             text.symbol(Symbol::LeftBrace)?;
             put_members(text, members.as_slice())?;

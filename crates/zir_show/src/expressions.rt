@@ -2,9 +2,9 @@
 
 ghost use Rattle.std.specs.Prelude.{◌≡◌, [], ◌∷◌, map, OnOk};
 ghost use Rattle.zir_lex.specs.declared.token.Symbol.TheVariants.{Comma};
-ghost use Rattle.zir_grammar.specs.Grammar.{name as name_token, prefix_token, rank, symbol_of};
-ghost use Rattle.zir_print.specs.Marks.{behind_each, enclosed, held, mark, nowhere, parted};
-ghost use Rattle.zir_print.specs.Expressions.{bracket_end, bracket_words, expr_words, kind, number_words, truth_word};
+ghost use Rattle.zir_grammar.specs.Grammar.{prefix_token, rank, symbol_of};
+ghost use Rattle.zir_print.specs.Marks.{enclosed, held, mark, nowhere, parted};
+ghost use Rattle.zir_print.specs.Expressions.{bracket_end, bracket_words, called_words, expr_words, kind, number_words, truth_word};
 ghost use Rattle.zir_show.specs.Growth.{Adds};
 
 use crate::text::Text;
@@ -12,7 +12,7 @@ use crate::types::put_base;
 use std::alloc::AllocError;
 use zir_lex::token::{Keyword, Symbol};
 use zir_tree::expr::{Expr, Operator, Prefix};
-use zir_tree::name::Name;
+use zir_tree::ident::Ident;
 
 /// How loosely an operator binds: the tightest have 0.
 fn operator_rank(operator: Operator) -> u32
@@ -68,7 +68,7 @@ fn put_prefix(text: &mut Text, prefix: Prefix) -> Result<(), AllocError>
     }
 }
 
-/// How loosely an expression binds: a primary 0, a prefix form 1, then the binary forms by the ranks of their operators.
+/// How loosely an expression binds: a primary 0, a prefix form 1, then binary forms by the ranks of their operators.
 fn looseness(e: &Expr) -> u32
     ensures { result ≡ kind e.now }
 {
@@ -186,7 +186,7 @@ pub fn put_expr(text: &mut Text, e: &Expr) -> Result<(), AllocError>
             text.symbol(Symbol::Dot)?;
             text.name(name)
         }
-        Expr::Call(name, _, arguments) => put_call(text, &name.name, arguments.as_slice()),
+        Expr::Call(name, _, arguments) => put_call(text, name, arguments.as_slice()),
         Expr::Array(elements, _) => {
             text.symbol(Symbol::LeftBrace)?;
             put_exprs(text, elements.as_slice())?;
@@ -221,10 +221,10 @@ fn put_exprs(text: &mut Text, es: &[Expr]) -> Result<(), AllocError>
 
 /// A call of a name with its arguments.
 #[cycle(expressions)]
-pub fn put_call(text: &mut Text, name: &Name, arguments: &[Expr]) -> Result<(), AllocError>
-    ensures { OnOk result (Adds text.old text.new (name_token name.now nowhere ∷ enclosed (parted (mark Comma) (map expr_words arguments.now)))) }
+pub fn put_call(text: &mut Text, name: &Ident, arguments: &[Expr]) -> Result<(), AllocError>
+    ensures { OnOk result (Adds text.old text.new (called_words name.now arguments.now)) }
 {
-    text.name(name)?;
+    text.name(&name.name)?;
     text.symbol(Symbol::LeftParenthesis)?;
     put_exprs(text, arguments)?;
     text.symbol(Symbol::RightParenthesis)

@@ -1,8 +1,8 @@
 // Variables, statements and bodies.
 
-ghost use Rattle.std.specs.Prelude.{◌≡◌, ◌++◌, [], ◌∷◌, map, OnOk};
+ghost use Rattle.std.specs.Prelude.{◌++◌, ◌∷◌, map, OnOk};
 ghost use Rattle.zir_lex.specs.declared.token.Symbol.TheVariants.{Semicolon};
-ghost use Rattle.zir_print.specs.Marks.{behind_each, link_word, mark, parted};
+ghost use Rattle.zir_print.specs.Marks.{link_word, mark, parted};
 ghost use Rattle.zir_print.specs.Statements.{access_words, body_words, bounds_words, declared_words, initial_words, list_words, path_words, result_words, stmt_words, var_words};
 ghost use Rattle.zir_lex.specs.declared.token.Keyword.TheVariants.{Return as ReturnWord};
 ghost use Rattle.zir_print.specs.Expressions.{expr_words};
@@ -100,7 +100,7 @@ fn put_stmt(text: &mut Text, stmt: &Stmt) -> Result<(), AllocError>
             text.symbol(Symbol::Assign)?;
             put_expr(text, e)
         }
-        Stmt::Call(name, _, arguments) => put_call(text, &name.name, arguments.as_slice()),
+        Stmt::Call(name, _, arguments) => put_call(text, name, arguments.as_slice()),
         Stmt::Error(quoted, _) => {
             text.keyword(Keyword::Error)?;
             text.quoted(quoted)
@@ -163,7 +163,8 @@ fn put_return(text: &mut Text, value: &Expr) -> Result<(), AllocError>
 
 /// Statements, and behind them the value that is returned.
 fn put_parts(text: &mut Text, stmts: &[Stmt], returned: &Option<Return>) -> Result<(), AllocError>
-    ensures { OnOk result (Adds text.old text.new (parted (mark Semicolon) (map stmt_words stmts.now ++ result_words returned.now))) }
+    ensures { OnOk result
+        (Adds text.old text.new (parted (mark Semicolon) (map stmt_words stmts.now ++ result_words returned.now))) }
 {
     put_stmts(text, stmts)?;
     match returned {

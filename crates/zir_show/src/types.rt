@@ -1,9 +1,8 @@
 // Types, and names with their types.
 
 ghost use Rattle.std.specs.Prelude.{◌≡◌, [], ◌∷◌, map, OnOk};
-ghost use Rattle.zir_lex.specs.declared.token.Symbol.TheVariants.{Comma, Semicolon};
-ghost use Rattle.zir_print.specs.Marks.{behind_each, enclosed, mark, nowhere, parted};
-ghost use Rattle.zir_print.specs.Types.{dimension_words, field_words, ident_word, inner_words, keyword_of, type_words, word_if};
+ghost use Rattle.zir_print.specs.Marks.{mark, nowhere, parted};
+ghost use Rattle.zir_print.specs.Types.{dimension_words, field_words, inner_words, keyword_of, type_words, word_if};
 ghost use Rattle.zir_show.specs.Growth.{Adds};
 
 use crate::text::Text;

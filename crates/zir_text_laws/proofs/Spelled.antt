@@ -1,10 +1,9 @@
 -- Each lexeme of the canonical tokens can be spelled, where those of the tokens that were read can.
-use Rattle.std.proofs.Common.{◌≡◌, ◌≢◌, ℕ, suc, append-nil, ◌≤◌, ◌^◌, Bool, true, false, List, [], ◌∷◌, ◌++◌, Option, Some, None, sym, subst, IsTrue, if◌then◌else◌}
+use Rattle.std.proofs.Common.{◌≢◌, ℕ, suc, append-nil, ◌≤◌, ◌^◌, Bool, true, false, List, [], ◌∷◌, ◌++◌, Option, Some, None, sym, subst, IsTrue, if◌then◌else◌}
 use Rattle.std.specs.Prelude.{nat_le, map}
 use Rattle.std.specs.List.{list_all}
 use Rattle.zir_tree.specs.declared.place.Place.{Place}
 use Rattle.zir_tree.specs.declared.ident.Ident.{Ident}
-use Rattle.zir_tree.specs.declared.types.Base.{Base}
 use Rattle.zir_tree.specs.declared.types.Base.TheVariants as base
 use Rattle.zir_tree.specs.declared.types.TypeExpr.{TypeExpr}
 use Rattle.zir_tree.specs.declared.types.Field.{Field}
@@ -16,9 +15,7 @@ use Rattle.zir_tree.specs.declared.stmt.Var.{Var}
 use Rattle.zir_tree.specs.declared.stmt.Access.{Access}
 use Rattle.zir_tree.specs.declared.stmt.Access.TheVariants as access
 use Rattle.zir_tree.specs.declared.stmt.Stmt.{Stmt}
-use Rattle.zir_tree.specs.declared.stmt.Stmt as stmt
 use Rattle.zir_tree.specs.declared.stmt.Body.{Body}
-use Rattle.zir_tree.specs.declared.comp.Turning.{Turning}
 use Rattle.zir_tree.specs.declared.comp.Turning.TheVariants as turning
 use Rattle.zir_tree.specs.declared.comp.Link.{Link}
 use Rattle.zir_tree.specs.declared.comp.Comp.{Comp}
@@ -26,7 +23,6 @@ use Rattle.zir_tree.specs.declared.comp.Comp as comp
 use Rattle.zir_tree.specs.declared.comp.Member.{Member}
 use Rattle.zir_tree.specs.declared.comp.Member as member
 use Rattle.zir_tree.specs.declared.program.Decl.{Decl}
-use Rattle.zir_tree.specs.declared.program.Decl.TheVariants as decl
 use Rattle.zir_tree.specs.declared.program.Prog.{Prog}
 use Rattle.zir_lex.specs.Classes.{is_string_byte}
 use Rattle.zir_lex.specs.Tables.{keyword_bytes}
@@ -38,14 +34,13 @@ use Rattle.zir_lex.specs.declared.token.Keyword.{Keyword}
 use Rattle.zir_lex.specs.declared.token.Keyword.TheVariants as keyword
 use Rattle.zir_lex.specs.declared.token.Symbol.{Symbol}
 use Rattle.zir_lex.specs.declared.token.Symbol.TheVariants as symbol
-use Rattle.zir_grammar.specs.Grammar.{word, sign, name, int, ident, main_bytes, symbol_of, rank, prefix_token, link_symbol, link_rank, plain_type, IsType, type_word, type_name, type_array, field, IsField, typed_name, IsMoreFields, last_field, more_fields, IsParams, no_params, params, IsBinary, unary, operands, IsOperands, no_operand, operand, IsUnary, prefixed, primary, IsPosts, no_post, index, slice, part, IsPrimary, number, bit_value, true_value, false_value, unit_value, variable, call, enclosed as enclosed_expr, array, convert, complex, IsArgs, no_args, args, IsMoreExprs, last_expr, more_exprs, IsExpr, plain_var, set_var, IsVar, var_alone, var_set, IsBounds, bounds, IsTarget, target, target_index, target_slice, target_part, IsStmt, declares, assigns, calls, errors, tests, chooses, turns, counts, IsStmts, stmts, IsMoreStmts, no_stmt, last_stmt, more_stmts, plain_body, result_body, IsMoreBody, no_more, ends, goes_on, returns, returns_stopped, IsBody, body, IsAtom, take_atom, takes_atom, emit_atom, emits_atom, return_atom, do_atom, repeat_atom, hinted_atom, while_atom, until_atom, times_atom, for_atom, if_atom, map_atom, filter_atom, call_atom, block_atom, enclosed_atom, IsChain, atom, links, IsLinks, no_link, join, IsBlock, block, IsMembers, binds, member_var, member_runs, last_member, last_stopped, IsResult, no_result, result, IsDecl, declares_var, declares_struct, declares_function, declares_comp, IsDecls, no_decl, more_decls, IsProg, program}
-use Rattle.zir_grammar.specs.Claim.{IsLowProg}
+use Rattle.zir_grammar.specs.Grammar.{word, sign, name, ident, symbol_of, rank, link_symbol, link_rank, IsType, type_word, type_name, type_array, IsField, typed_name, IsMoreFields, last_field, more_fields, IsParams, no_params, params, IsBinary, unary, operands, IsOperands, no_operand, operand, IsUnary, prefixed, primary, IsPosts, no_post, index, slice, part, IsPrimary, number, bit_value, true_value, false_value, unit_value, variable, call, enclosed as enclosed_expr, array, convert, complex, IsArgs, no_args, args, IsMoreExprs, last_expr, more_exprs, IsVar, var_alone, var_set, IsBounds, bounds, IsTarget, target, target_index, target_slice, target_part, IsStmt, declares, assigns, calls, errors, tests, chooses, turns, counts, IsStmts, stmts, IsMoreStmts, no_stmt, last_stmt, more_stmts, plain_body, result_body, IsMoreBody, no_more, ends, goes_on, returns, returns_stopped, IsBody, body, IsAtom, take_atom, takes_atom, emit_atom, emits_atom, return_atom, do_atom, repeat_atom, hinted_atom, while_atom, until_atom, times_atom, for_atom, if_atom, map_atom, filter_atom, call_atom, block_atom, enclosed_atom, IsChain, atom, links, IsLinks, no_link, join, IsBlock, block, IsMembers, binds, member_var, member_runs, last_member, last_stopped, IsResult, no_result, result, IsDecl, declares_var, declares_struct, declares_function, declares_comp, IsDecls, no_decl, more_decls, IsProg, program}
 use Rattle.zir_print.specs.Marks.{nowhere, mark, link_word, parted, behind_each, enclosed, braced, held}
-use Rattle.zir_print.specs.Types.{keyword_of, word_if, ident_word, inner_words, dimension_words, type_words, field_words}
-use Rattle.zir_print.specs.Expressions.{kind, bracket_end, bracket_words, call_words, called_words, expr_words}
-use Rattle.zir_print.specs.Statements.{initial_words, declared_words, var_words, access_words, path_words, bounds_words, list_words, stmt_words, result_words, body_words}
+use Rattle.zir_print.specs.Types.{keyword_of, word_if, inner_words, dimension_words, type_words, field_words}
+use Rattle.zir_print.specs.Expressions.{kind, bracket_end, bracket_words, called_words, expr_words}
+use Rattle.zir_print.specs.Statements.{var_words, access_words, path_words, bounds_words, list_words, stmt_words, body_words}
 use Rattle.zir_print.specs.Components.{comp_kind, comp_words, member_words}
-use Rattle.zir_print.specs.Canonical.{params_words, gives_words, decl_words, stream_words, main_words, decls_words, canonical}
+use Rattle.zir_print.specs.Canonical.{params_words, gives_words, decl_words, stream_words, main_words}
 use Rattle.zir_print.proofs.ExprLaw.{words_unary, words_binary, words_index, words_slice, words_part, words_convert, words_complex, words_call, words_array}
 use Rattle.zir_print.proofs.StmtLaw.{words_if, words_if_else, words_while, words_for}
 use Rattle.zir_print.proofs.CompLaw as comp_law

@@ -1,18 +1,18 @@
 -- The canonical text is read as the canonical lexemes: each stands before white space, and none goes on past it.
-use Rattle.std.proofs.Common.{◌≡◌, ◌≢◌, ℕ, ◌+◌, ◌*◌, ◌/◌, ◌%◌, ◌^◌, ◌<◌, ◌≤◌, ◌⊎◌, inl, inr, Bool, true, false, cond, List, [], ◌∷◌, ◌++◌, length, get_or, take, drop, refl, sym, ap, ◌∙◌, subst, arith, eqb, eqb-true, true≢false, append_assoc, append-nil, length-append, decimal}
-use Rattle.std.specs.Prelude.{zero, suc, map, ◌&&◌, IsTrue, if◌then◌else◌}
+use Rattle.std.proofs.Common.{◌≡◌, ◌≢◌, ℕ, ◌+◌, ◌*◌, ◌/◌, ◌%◌, ◌^◌, ◌<◌, ◌≤◌, inl, Bool, true, false, cond, List, [], ◌∷◌, ◌++◌, length, get_or, take, drop, refl, sym, ap, ◌∙◌, subst, arith, eqb, eqb-true, true≢false, append_assoc, append-nil, length-append, decimal}
+use Rattle.std.specs.Prelude.{zero, suc, ◌&&◌}
 use Rattle.std.specs.List.{prefix_len, list_all}
 use Rattle.std.specs.Char.{is_ascii_digit, is_ascii_hexdigit, digit_value}
 use Rattle.std.proofs.lemmas.Bool.{and_parts}
 use Rattle.std.proofs.lemmas.Fmt.{decimal_by_steps}
 use Rattle.std.proofs.Math.Seq.{get_or-append_seam}
 use Rattle.zir_tree.specs.declared.place.Place.{Place}
-use Rattle.zir_lex.specs.Classes.{is_white, is_word_byte, is_string_byte, is_line_byte, begins_word, number_of}
+use Rattle.zir_lex.specs.Classes.{is_white, is_word_byte, is_string_byte, number_of}
 use Rattle.zir_lex.specs.Tables.{keyword_bytes, symbol_bytes}
 use Rattle.zir_lex.specs.Spelling.{Piece, White, Comment, Word, piece_bytes, IsPiece, IsWord, IsDecimal, text_of}
 use Rattle.zir_lex.specs.Places.{place_past, first_place}
-use Rattle.zir_lex.specs.Tokens.{IsLongest, IsWhole, IsSound, Stands, AreRead, IsReadTo, Lexes, tokens_from}
-use Rattle.zir_lex.specs.Fronts.{OfWord, OfNumber, OfBit, OfString, OfSign, OfWhite, kind_of, begins_hexadecimal}
+use Rattle.zir_lex.specs.Tokens.{IsLongest, IsWhole, Stands, AreRead, Lexes, tokens_from}
+use Rattle.zir_lex.specs.Fronts.{OfWord, kind_of, begins_hexadecimal}
 use Rattle.zir_lex.specs.declared.token.Symbol.{Symbol}
 use Rattle.zir_lex.specs.declared.token.Symbol.TheVariants as symbols
 use Rattle.zir_lex.specs.declared.token.Token.{Token}
@@ -27,7 +27,7 @@ use Rattle.zir_tree.specs.declared.program.Prog.{Prog}
 use Rattle.zir_print.specs.Canonical.{decl_words, decls_words, main_words, canonical}
 use Rattle.zir_print.specs.Text.{spelling, spaced, line, decl_lines, canonical_text}
 use Rattle.zir_text_laws.specs.Laws.{lexemes, HasLexemes}
-use Rattle.zir_text_laws.proofs.Spelled.{Spellable, AllSpellable, AllOf, ProgSpelled, prog_all}
+use Rattle.zir_text_laws.proofs.Spelled.{Spellable, AllSpellable, AllOf, prog_all}
 use Rattle.zir_grammar.specs.Claim.{IsLowProg}
 
 -- ---- white space ends what stands before it
