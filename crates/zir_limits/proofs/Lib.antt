@@ -1,0 +1,5 @@
+pub mod ExpressionEquations
+pub mod Noted
+pub mod Order
+pub mod Rows
+pub mod StatementEquations
