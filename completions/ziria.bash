@@ -2,8 +2,14 @@
 _ziria() {
     local word=${COMP_WORDS[COMP_CWORD]}
     case $COMP_CWORD in
-        1) COMPREPLY=($(compgen -W "run" -- "$word")) ;;
-        2) COMPREPLY=($(compgen -W "--ticks" -- "$word")) ;;
+        1) COMPREPLY=($(compgen -W "run show" -- "$word")) ;;
+        2)
+            if [ "${COMP_WORDS[1]}" = show ]; then
+                COMPREPLY=($(compgen -f -X '!*.zir' -- "$word") $(compgen -d -- "$word"))
+            else
+                COMPREPLY=($(compgen -W "--ticks" -- "$word"))
+            fi
+            ;;
         3) COMPREPLY=() ;;
         4) COMPREPLY=($(compgen -f -X '!*.zir' -- "$word") $(compgen -d -- "$word")) ;;
     esac

@@ -6,8 +6,9 @@ use Rattle.std.specs.Char.{is_ascii_digit}
 use Rattle.zir_lex.specs.Classes.{begins_word, number_of}
 use Rattle.zir_lex.specs.Tables.{keyword_bytes, symbol_bytes}
 use Rattle.zir_lex.specs.Spelling.{Piece, White, Comment, Word, piece_bytes, IsPiece, IsDecimal, IsHexadecimal, text_of}
-use Rattle.zir_lex.specs.Tokens.{IsLongest, IsSound, Stands, AreRead, IsReadTo, Lexes, IsBadByte, IsBadNumber, BadByteAt, BadNumberAt, tokens_from}
+use Rattle.zir_lex.specs.Tokens.{IsLongest, IsSound, Stands, AreRead, IsReadTo, Lexes, EndsAt, end_past, IsBadByte, IsBadNumber, BadByteAt, BadNumberAt, tokens_from}
 use Rattle.zir_lex.specs.Places.{first_place}
+use Rattle.zir_tree.specs.declared.place.Place.{Place}
 use Rattle.zir_lex.specs.Fronts.{kind_of}
 use Rattle.zir_lex.specs.declared.token.Keyword.{Keyword}
 use Rattle.zir_lex.specs.declared.token.Keyword.TheVariants as keywords
@@ -347,6 +348,11 @@ pub one_list : (text : List ℕ) (a b : List Token) → Lexes text a → Lexes t
 one_list text a b one other =
     let same : (one.pieces ≡ other.pieces) × ([] ≡ []) = same_reading text one.pieces other.pieces [] [] one.read other.read end_is_stuck end_is_stuck in
     one.are ∙ ap (tokens_from first_place) same.0 ∙ sym other.are
+
+pub one_end : (text : List ℕ) (a b : Place) → EndsAt text a → EndsAt text b → a ≡ b
+one_end text a b one other =
+    let same : (one.pieces ≡ other.pieces) × ([] ≡ []) = same_reading text one.pieces other.pieces [] [] one.read other.read end_is_stuck end_is_stuck in
+    one.is ∙ ap (end_past first_place first_place) same.0 ∙ sym other.is
 
 pub no_bad_byte : (text : List ℕ) (tokens : List Token) (at : ℕ) → Lexes text tokens → BadByteAt text at → ⊥
 no_bad_byte text tokens at lexes bad =

@@ -83,6 +83,11 @@ abbrev pub tokens_at : Place → Option Lexeme → List Token
 tokens_at at None = []
 tokens_at at (Some word) = record { lexeme = word; at = at } ∷ []
 
+-- the place after the last token so far, where a front ends at a place
+abbrev pub end_at : Place → Place → Option Lexeme → Place
+end_at end next None = end
+end_at end next (Some word) = next
+
 -- the text begins with `0x` and a hexadecimal digit
 abbrev pub begins_hexadecimal : List ℕ → Bool
 begins_hexadecimal text = (get_or text 0 0 == 48) && ((get_or text 1 0 == 120) && is_ascii_hexdigit (get_or text 2 0))

@@ -1,11 +1,16 @@
 -- A text has one reading: its tokens, or its first fault.
 use Rattle.std.specs.Prelude.{◌≡◌, ℕ, List}
-use Rattle.zir_lex.specs.Tokens.{Lexes, BadByteAt, BadNumberAt}
+use Rattle.zir_lex.specs.Tokens.{Lexes, EndsAt, BadByteAt, BadNumberAt}
 use Rattle.zir_lex.specs.declared.token.Token.{Token}
+use Rattle.zir_tree.specs.declared.place.Place.{Place}
 
 -- a text has at most one list of tokens
 abbrev pub HasOneList : Type 0
 HasOneList = (text : List ℕ) (a b : List Token) → Lexes text a → Lexes text b → a ≡ b
+
+-- the last token of a text ends at one place
+abbrev pub HasOneEnd : Type 0
+HasOneEnd = (text : List ℕ) (a b : Place) → EndsAt text a → EndsAt text b → a ≡ b
 
 -- a text with tokens has no fault
 abbrev pub HasNoFault : Type 0

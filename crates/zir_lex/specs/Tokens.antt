@@ -47,6 +47,17 @@ abbrev pub tokens_from : Place → List Piece → List Token
 tokens_from place [] = []
 tokens_from place (piece ∷ pieces) = token_of place piece ++ tokens_from (place_past place (piece_bytes piece)) pieces
 
+-- the place after the last token so far, behind one piece more that stands at a place
+abbrev pub end_after : Place → Place → Piece → Place
+end_after end place (White b) = end
+end_after end place (Comment line) = end
+end_after end place (Word word bytes) = place_past place bytes
+
+-- the place after the last byte of the last token of pieces, the first of which stands at a place; and the given one without tokens
+abbrev pub end_past : Place → Place → List Piece → Place
+end_past end place [] = end
+end_past end place (piece ∷ pieces) = end_past (end_after end place piece) (place_past place (piece_bytes piece)) pieces
+
 -- up to an offset the text is read as pieces, and the rest stands there
 pub record IsReadTo (text : List ℕ) (pieces : List Piece) (rest : List ℕ) : Type 0 where
   pub whole : text ≡ text_of pieces ++ rest
@@ -57,6 +68,12 @@ pub record Lexes (text : List ℕ) (tokens : List Token) : Type 0 where
   pub pieces : List Piece
   pub read : IsReadTo text pieces []
   pub are : tokens ≡ tokens_from first_place pieces
+
+-- the place after the last byte of the text's last token, and 1:1 without tokens
+pub record EndsAt (text : List ℕ) (end : Place) : Type 0 where
+  pub pieces : List Piece
+  pub read : IsReadTo text pieces []
+  pub is : end ≡ end_past first_place first_place pieces
 
 -- no front of what stands there is a piece: a byte that begins no token, a `'` without its bit, a `"` whose string does not end
 pub record IsBadByte (rest : List ℕ) : Type 0 where

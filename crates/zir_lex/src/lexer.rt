@@ -2,9 +2,9 @@
 
 ghost use Rattle.std.specs.Prelude.{◌≡◌, ◌≢◌, ◌<◌, ◌≤◌, ◌⊎◌, ◌++◌, ℕ, List, length, IfOk, IfErr, OnOk, IsErrOf, MatchResult};
 ghost use Rattle.zir_lex.specs.declared.token.Token.{Token};
-ghost use Rattle.zir_lex.specs.Tokens.{Lexes, BadByteAt, BadNumberAt, IsRefusal};
-ghost use Rattle.zir_lex.specs.Laws.{HasOneList, HasNoFault, HasOneFault};
-ghost use Rattle.zir_lex.specs.Fronts.{refusal_at, tokens_at};
+ghost use Rattle.zir_lex.specs.Tokens.{Lexes, EndsAt, BadByteAt, BadNumberAt, IsRefusal};
+ghost use Rattle.zir_lex.specs.Laws.{HasOneList, HasOneEnd, HasNoFault, HasOneFault};
+ghost use Rattle.zir_lex.specs.Fronts.{refusal_at, tokens_at, end_at};
 
 use crate::front::{Front, FrontError, read_front};
 use crate::places::place_past;
@@ -33,19 +33,27 @@ pub enum LexError {
     Memory,
 }
 
+/// The tokens of a text.
+#[derive(Debug, Drop)]
+pub struct Lexed {
+    pub tokens: Vec<Token>,
+    /// The place after the last byte of the last token, and 1:1 without tokens.
+    pub end: Place,
+}
+
 /// The tokens of a text: the spellings by longest match, with white space and comments between.
 /// `TooLong` comes exactly where the text has more than 65,536 bytes, and before the others.
 /// `BadByte` and `BadNumber` come exactly where such a fault is the first in the text.
-pub fn lex(alloc: Global, text: &[u8]) -> Result<Vec<Token>, LexError>
-    // What is answered are the tokens of the text.
-    ensures ok { IfOk result (λ found. (length text.now ≤ 65536) × Lexes text.now found.items) }
+pub fn lex(alloc: Global, text: &[u8]) -> Result<Lexed, LexError>
+    // What is answered are the tokens of the text, and where the last one ends.
+    ensures ok { IfOk result (λ found. (length text.now ≤ 65536) × Lexes text.now found.tokens.items × EndsAt text.now found.end) }
     // Each refusal has its cause.
     ensures refused { IfErr result (λ error. IsRefusal error text.now) }
     // A text that is too long is always refused so.
     ensures too_long { 65536 < length text.now → IsErrOf result LexError.TooLong }
     // A text with tokens gives these, unless memory runs out.
     ensures only { (tokens : List Token) → length text.now ≤ 65536 → Lexes text.now tokens
-        → MatchResult result (λ found. found.items ≡ tokens) (λ error. error ≡ LexError.Memory) }
+        → MatchResult result (λ found. found.tokens.items ≡ tokens) (λ error. error ≡ LexError.Memory) }
     // A faulty text is refused with its fault, unless memory runs out.
     ensures bad_byte { (at : ℕ) → length text.now ≤ 65536 → BadByteAt text.now at
         → MatchResult result (λ _. ⊥) (λ error. (error ≡ LexError.BadByte at) ⊎ (error ≡ LexError.Memory)) }
@@ -58,21 +66,24 @@ pub fn lex(alloc: Global, text: &[u8]) -> Result<Vec<Token>, LexError>
     read_all(alloc, text)
 }
 
-/// A text has one reading: one list of tokens or one first fault, and never both.
+/// A text has one reading: one list of tokens that ends at one place, or one first fault, and never both.
 pub fn one_reading()
     ensures tokens { HasOneList }
+    ensures end { HasOneEnd }
     ensures sound { HasNoFault }
     ensures faults { HasOneFault }
 {}
 
 /// The tokens of a text that is short enough, or its first fault.
-fn read_all(alloc: Global, text: &[u8]) -> Result<Vec<Token>, LexError>
+fn read_all(alloc: Global, text: &[u8]) -> Result<Lexed, LexError>
     requires { length text.now ≤ 65536 }
-    ensures ok { IfOk result (λ found. Lexes text.now found.items) }
+    ensures ok { IfOk result (λ found. Lexes text.now found.tokens.items) }
+    ensures end { IfOk result (λ found. EndsAt text.now found.end) }
     ensures refused { IfErr result (λ error. IsRefusal error text.now × (error ≢ LexError.TooLong)) }
 {
     let mut tokens = Vec::new(alloc);
     let mut place = Place { line: 1, col: 1 };
+    let mut end = place;
     let mut at = 0;
     while at < text.len() {
         let rest = &text[at..];
@@ -81,11 +92,23 @@ fn read_all(alloc: Global, text: &[u8]) -> Result<Vec<Token>, LexError>
             Err(error) => return Err(refusal(error, at as u32)),
         };
         let Front { lexeme, len } = front;
+        let next = place_past(place, &rest[..len]);
+        end = end_behind(end, next, &lexeme);
         add(&mut tokens, lexeme, place)?;
-        place = place_past(place, &rest[..len]);
+        place = next;
         at += len;
     }
-    Ok(tokens)
+    Ok(Lexed { tokens, end })
+}
+
+/// Where the last token ends, when a piece more ends at the place `next`.
+fn end_behind(end: Place, next: Place, lexeme: &Option<Lexeme>) -> Place
+    ensures { result ≡ end_at end next lexeme.now }
+{
+    match lexeme {
+        Some(_) => next,
+        None => end,
+    }
 }
 
 /// The fault with its offset in the text.

@@ -20,7 +20,7 @@ fn letter(lexeme: &Lexeme) -> u8 {
 /// The letters of the tokens of a text.
 fn letters(alloc: Global, text: &[u8]) -> Result<Vec<u8>, LexError> {
     let mut letters = Vec::new(alloc);
-    for token in &lex(alloc, text)? {
+    for token in &lex(alloc, text)?.tokens {
         match letters.push(letter(&token.lexeme)) {
             Ok(()) => {}
             Err(_) => return Err(LexError::Memory),

@@ -1,3 +1,3 @@
-mod Bits
-pub mod Claims
 pub mod Runs
+pub mod Keep
+pub mod Verdicts

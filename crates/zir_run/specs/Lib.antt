@@ -1,4 +1,4 @@
-pub mod Cores
 pub mod Claim
 pub mod Loading
+pub mod Keeping
 pub mod Reports

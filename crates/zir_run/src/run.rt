@@ -11,7 +11,7 @@ ghost use Rattle.zir_bit_meaning.specs.Trace.{Trace};
 ghost use Rattle.zir_notes.specs.Endings.{run_end_of};
 ghost use Rattle.zir_outside.specs.Causes.{Rose};
 ghost use Rattle.zir_outside.specs.Sinks.{Grew, GrewPart};
-ghost use Rattle.zir_run.specs.Claim.{EndsAs, IsTold, IsEnded, IsBroken, IsQuiet};
+ghost use Rattle.zir_run.specs.Claim.{EndsAs, IsTold, IsEnded, IsBroken, IsQuietRun};
 ghost use Rattle.zir_run.specs.Reports.{TellsRun, IsNoteOf, status_over, note_over};
 ghost use Rattle.zir_steps.specs.declared.answer.Answer.TheVariants.{Done};
 
@@ -55,7 +55,7 @@ pub fn run<S: Source, K: Sink, N: Sink>(
     ensures statuses { IsEnded result ⊎ IsBroken result }
     ensures read_fault { result ≡ 7 → Rose (S.faults input.old) (S.faults input.new) }
     ensures write_fault { result ≡ 8 → Rose (K.faults out.old) (K.faults out.new) ⊎ Rose (N.faults notes.old) (N.faults notes.new) }
-    ensures quiet { IsQuiet result → notes.new ≡ notes.old }
+    ensures quiet { IsQuietRun result → notes.new ≡ notes.old }
 {
     let Ok(mut machine) = prepare(alloc, &program.main, ticks) else {
         return NO_MEMORY;

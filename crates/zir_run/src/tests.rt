@@ -39,7 +39,12 @@ fn shelf(alloc: Global) -> Result<MemShelf, AllocError> {
 }
 
 /// Runs the text of a name over the bytes 00 and ff, of which so many at most come in a read.
-fn run_text(alloc: Global, name: &str, piece: usize, failing: Failing) -> Result<Told, AllocError>
+fn told_by_run(
+    alloc: Global,
+    name: &str,
+    piece: usize,
+    failing: Failing,
+) -> Result<Told, AllocError>
     requires { 1 ≤ piece }
 {
     let mut words = Vec::new(alloc);
@@ -70,7 +75,7 @@ fn compare(rt: &impl Abort, told: &Told, status: u8, output: &[u8], notes: &str)
 #[test]
 fn a_run_is_the_same_in_any_pieces(rt: HostRuntime) -> Result<(), Fail> {
     for piece in [1, 2, 3] {
-        let told = run_text(rt.alloc(), "p", piece, NOTHING)?;
+        let told = told_by_run(rt.alloc(), "p", piece, NOTHING)?;
         compare(
             &rt,
             &told,
@@ -84,7 +89,7 @@ fn a_run_is_the_same_in_any_pieces(rt: HostRuntime) -> Result<(), Fail> {
 
 #[test]
 fn a_text_that_the_shelf_lacks_is_answered(rt: HostRuntime) -> Result<(), Fail> {
-    let told = run_text(rt.alloc(), "q", 1, NOTHING)?;
+    let told = told_by_run(rt.alloc(), "q", 1, NOTHING)?;
     compare(&rt, &told, 3, b"", "");
     Ok(())
 }
@@ -99,9 +104,9 @@ fn a_failed_read_is_answered(rt: HostRuntime) -> Result<(), Fail> {
         reads: &[2],
         ..NOTHING
     };
-    let none = run_text(rt.alloc(), "p", 1, first)?;
+    let none = told_by_run(rt.alloc(), "p", 1, first)?;
     compare(&rt, &none, 7, b"", "");
-    let some = run_text(rt.alloc(), "p", 1, second)?;
+    let some = told_by_run(rt.alloc(), "p", 1, second)?;
     compare(&rt, &some, 7, b"\xff", "");
     Ok(())
 }
@@ -116,9 +121,9 @@ fn a_failed_put_is_answered(rt: HostRuntime) -> Result<(), Fail> {
         note_puts: &[1],
         ..NOTHING
     };
-    let none = run_text(rt.alloc(), "p", 2, output)?;
+    let none = told_by_run(rt.alloc(), "p", 2, output)?;
     compare(&rt, &none, 8, b"", "");
-    let all = run_text(rt.alloc(), "p", 2, notes)?;
+    let all = told_by_run(rt.alloc(), "p", 2, notes)?;
     compare(&rt, &all, 8, b"\xff\x00", "");
     Ok(())
 }

@@ -1,2 +1,1 @@
-mod FourWords
 mod Spelling

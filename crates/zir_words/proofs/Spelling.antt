@@ -5,7 +5,7 @@ use Rattle.std.specs.Result.{result_ok}
 use Rattle.std.specs.Str.Parse.{AllDigits, digits_value, ParsesUnsigned}
 use Rattle.std.proofs.lemmas.Str.Parse.{IsNumeralModel, numerals_by_value, tells_digits, parse_plain}
 use Rattle.std.proofs.lemmas.Fmt.{decimal-digits_value, decimal_digit, decimal_injective, decimal_nonempty, first_decimal, parse-decimal}
-use Rattle.zir_words.specs.Words.{AskOnce, IsBudget}
+use Rattle.zir_words.specs.Words.{AskOnce, ForRun, ForShow, IsBudget, IsRun}
 
 -- std's digits and their value
 own : IsNumeralModel (AllDigits 10) (digits_value 10)
@@ -37,9 +37,16 @@ not_zero bs (suc n) first e = omega arith
 pub parsed : {E : Type 0} (bs : List ℕ) (r : Result ℕ E) (n : ℕ) → IsBudget n → bs ≡ decimal n → ParsesUnsigned 64 10 bs r → result_ok r ≡ Some n
 parsed bs r n b e h = ap result_ok (parse-decimal 64 n bs r (omega arith) (omega arith) e h)
 
--- words ask for one run at most
-pub asked_once : AskOnce
-asked_once words m n name other a b =
+-- the words of two runs
+same_run : (words : List (List ℕ)) (m n : ℕ) (name other : List ℕ) → IsRun words m name → IsRun words n other → (m ≡ n) × (name ≡ other)
+same_run words m n name other a b =
     let spelling : decimal m ≡ decimal n = cc (a.form, b.form) in
     let names : name ≡ other = cc (a.form, b.form) in
     (decimal_injective m n (omega (arith, a.budget)) (omega (arith, b.budget)) spelling, names)
+
+-- words ask for one thing at most
+pub asked_once : AskOnce
+asked_once words (ForRun m name) (ForRun n other) a b = let same = same_run words m n name other a b in λ i. ForRun (same.0 i) (same.1 i)
+asked_once words (ForRun m name) (ForShow other) a b = absurd (cc (a.form, b.form))
+asked_once words (ForShow name) (ForRun n other) a b = absurd (cc (a.form, b.form))
+asked_once words (ForShow name) (ForShow other) a b = let same : name ≡ other = cc (a.form, b.form) in ap ForShow same

@@ -1,8 +1,8 @@
 //! The words of a command line, and what they ask for.
 #![tactic(auto)]
 
-ghost use Rattle.std.specs.Prelude.{◌≡◌, ℕ, List, ◌↔◌, IfNone, IfSome, IsTrue, decimal, map, string_bytes};
-ghost use Rattle.zir_words.specs.Words.{AskOnce, IsBudget, IsProgramName, IsRun};
+ghost use Rattle.std.specs.Prelude.{◌≡◌, ℕ, [], ◌∷◌, ◌↔◌, IfNone, IfSome, IsTrue, decimal, map, string_bytes};
+ghost use Rattle.zir_words.specs.Words.{AreBad, Ask, AskOnce, IsBudget, IsProgramName, IsRun, asked_of, name_of};
 
 /// The most ticks that a run may be given, 2^48.
 pub const MAX_TICKS: u64 = 281_474_976_710_656;
@@ -16,25 +16,74 @@ pub struct RunWords<'a> {
     pub name: &'a str,
 }
 
-/// Reads the words `run --ticks N NAME`, and answers None where they are not of this form.
-pub fn read_words(words: &[String]) -> Option<RunWords<'_>>
-    ensures some { IfSome result (λ w. IsRun (map string_bytes words.now) w.ticks w.name.now) }
-    ensures none { IfNone result ((n : ℕ) (name : List ℕ) → IsRun (map string_bytes words.now) n name → ⊥) }
-{
-    let [command, option, number, name] = words else {
-        return None;
-    };
-    if command.as_str() != "run"
-        || option.as_str() != "--ticks"
-        || !is_program_name(name.as_str())
+/// What the words of a command line ask for.
+#[derive(Clone, Copy, Debug, PartialEq, Eq)]
+pub enum Job<'a> {
+    /// The run of a program.
+    Run(RunWords<'a>),
+    /// `show NAME`: the canonical text of the program in the text of this name.
+    Show(&'a str),
+}
+
+impl<'a> Job<'a> {
+    /// The name of the program's text.
+    pub fn name(self) -> &'a str
+        ensures { result.now ≡ name_of (asked_of self.entry) }
     {
+        match self {
+            Job::Run(run) => run.name,
+            Job::Show(name) => name,
+        }
+    }
+}
+
+/// Reads the words of a command line, and answers None where they are of no form: `run --ticks N NAME` and
+/// `show NAME`.
+pub fn read_words(words: &[String]) -> Option<Job<'_>>
+    ensures some { IfSome result (λ job. Ask (map string_bytes words.now) (asked_of job)) }
+    ensures none { IfNone result (AreBad (map string_bytes words.now)) }
+{
+    match words {
+        [command, name] => read_show(command.as_str(), name.as_str()),
+        [command, option, number, name] => {
+            let run = read_run(
+                command.as_str(),
+                option.as_str(),
+                number.as_str(),
+                name.as_str(),
+            )?;
+            Some(Job::Run(run))
+        }
+        _ => None,
+    }
+}
+
+/// Reads the words `show NAME`.
+fn read_show<'a>(command: &'a str, name: &'a str) -> Option<Job<'a>>
+    ensures some { IfSome result (λ job. Ask (command.now ∷ name.now ∷ []) (asked_of job)) }
+    ensures none { IfNone result (AreBad (command.now ∷ name.now ∷ [])) }
+{
+    if command != "show" || !is_program_name(name) {
         return None;
     }
-    let ticks = read_ticks(number.as_str())?;
-    Some(RunWords {
-        ticks,
-        name: name.as_str(),
-    })
+    Some(Job::Show(name))
+}
+
+/// Reads the words `run --ticks N NAME`.
+fn read_run<'a>(
+    command: &'a str,
+    option: &'a str,
+    number: &'a str,
+    name: &'a str,
+) -> Option<RunWords<'a>>
+    ensures some { IfSome result (λ w. IsRun (command.now ∷ option.now ∷ number.now ∷ name.now ∷ []) w.ticks w.name.now) }
+    ensures none { IfNone result (AreBad (command.now ∷ option.now ∷ number.now ∷ name.now ∷ [])) }
+{
+    if command != "run" || option != "--ticks" || !is_program_name(name) {
+        return None;
+    }
+    let ticks = read_ticks(number)?;
+    Some(RunWords { ticks, name })
 }
 
 fn is_program_name(name: &str) -> bool
@@ -63,7 +112,7 @@ fn read_ticks(number: &str) -> Option<u64>
     }
 }
 
-/// The words of a command line ask for one run at most.
+/// The words of a command line ask for one thing at most.
 pub fn ask_once()
     ensures { AskOnce }
 {}
@@ -82,18 +131,21 @@ mod tests {
     }
 
     #[test]
-    fn one_form_is_read(rt: HostRuntime) -> Result<(), AllocError> {
+    fn each_form_is_read(rt: HostRuntime) -> Result<(), AllocError> {
         let cases = [
             (
                 "run --ticks 281474976710656 p",
-                Some((281_474_976_710_656, "p")),
+                Some(Job::Run(RunWords {
+                    ticks: 281_474_976_710_656,
+                    name: "p",
+                })),
             ),
             ("run --ticks 1", None),
+            ("show p", Some(Job::Show("p"))),
         ];
         for (line, want) in cases {
             let words = words_of(rt.alloc(), line)?;
-            let found = read_words(words.as_slice()).map(|run| (run.ticks, run.name));
-            assert_eq!(rt; found, want);
+            assert_eq!(rt; read_words(words.as_slice()), want);
         }
         Ok(())
     }

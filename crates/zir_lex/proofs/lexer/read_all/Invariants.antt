@@ -8,7 +8,7 @@ invariant-loop-at l = record {
   within : l.at ≤ length l.text;
   line : l.place.line ≤ 1 + l.at;
   column : l.place.col ≤ 1 + l.at;
-  so_far : ReadSoFar l.text l.at l.tokens.items l.place;
+  so_far : ReadSoFar l.text l.at l.tokens.items l.place l.end;
 }
 
 abbrev pub decreases-loop-at : goal.decreases-loop-at

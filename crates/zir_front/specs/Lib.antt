@@ -1,3 +1,0 @@
-pub mod Grammar
-pub mod Program
-pub mod Reading
