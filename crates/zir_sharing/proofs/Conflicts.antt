@@ -1,8 +1,8 @@
 -- The first conflict along lists, and the equations of the rules at the trees that code has.
-use Rattle.std.specs.Prelude.{◌≡◌, ℕ, ◌<◌, ◌≤◌, ◌+◌, ◌⊎◌, Bool, true, false, ◌&&◌, ◌||◌, List, [], ◌∷◌, ◌++◌, Option, Some, None, Result, Ok, Err, length, nat_eq, nat_lt, if◌then◌else◌, slice_index_or, take, drop, refl}
+use Rattle.std.specs.Prelude.{◌≡◌, ℕ, ◌<◌, ◌≤◌, ◌+◌, ◌⊎◌, true, false, ◌&&◌, List, [], ◌∷◌, ◌++◌, Option, Some, None, Result, length, nat_eq, nat_lt, slice_index_or, take, drop, refl}
 use Rattle.std.specs.List.{flat_map}
 use Rattle.std.proofs.Common.{ap, ◌∙◌, sym, subst, arith, IsErrAnd, inl, inr}
-use Rattle.std.proofs.lemmas.Bool.{false≢true, cases_Bool, cond-true, cond-false, cond_both, ltb-true, ltb-false, eqb-true, eqb-false, lt-ltb, le-ltb, cases_order, ne_eqb, eq-eqb}
+use Rattle.std.proofs.lemmas.Bool.{false≢true, cases_Bool, ltb-true, ltb-false, eqb-true, eqb-false}
 use Rattle.std.proofs.lemmas.List.{append_assoc, take_more, flat_map_more}
 use Rattle.zir_sharing.proofs.Touching.{drop_item}
 use Rattle.std.proofs.lemmas.Result.{err_from_is_err_and}

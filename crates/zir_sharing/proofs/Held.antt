@@ -2,7 +2,7 @@
 use Rattle.std.specs.Prelude.{◌≡◌, ℕ, zero, suc, ◌<◌, ◌≤◌, ◌+◌, ◌-◌, ◌*◌, ◌/◌, ◌%◌, ◌^◌, Bool, true, false, ◌&&◌, ◌||◌, not, List, [], ◌∷◌, ◌++◌, Option, Some, None, MatchOption, length, min, max, nat_eq, if◌then◌else◌, slice_set, bit_and, bit_or, refl}
 use Rattle.std.proofs.Common.{ap, ◌∙◌, sym, subst, inl, inr, arith, get_or}
 use Rattle.std.specs.Int.{bit_at, bit_not, trailing_zeros, w64}
-use Rattle.std.proofs.lemmas.Bool.{eq-eqb, ne_eqb, cases_lt, cases_eq, cond_both, cond-true, cond-false, or_left, or_from}
+use Rattle.std.proofs.lemmas.Bool.{eq-eqb, ne_eqb, cases_lt, cases_eq, cond_both, cond-true, cond-false, or_left}
 use Rattle.std.proofs.lemmas.List.{get_or_past, get_or-set_same, get_or-set_other, append-nil}
 use Rattle.std.proofs.lemmas.Nat.{div-mul-add, mod-mul-add}
 use Rattle.std.proofs.lemmas.Nat.Bits.{bit_at-zero, bit_at-lt, bit_at_or, bit_at_and, bit_at_not, bit_at_set_same, bit_at_set_other, bit_at-trailing_zeros, same_from_bits}

@@ -1,7 +1,7 @@
 -- Sets of numbers as ascending lists without repeats: what is in them, and that sets with the same numbers are equal.
-use Rattle.std.specs.Prelude.{◌≡◌, ℕ, suc, ◌<◌, ◌≤◌, Bool, true, false, ◌&&◌, ◌||◌, not, List, [], ◌∷◌, Option, Some, None, nat_eq, nat_lt, if◌then◌else◌, refl}
+use Rattle.std.specs.Prelude.{◌≡◌, ℕ, suc, ◌<◌, ◌≤◌, Bool, true, false, ◌&&◌, ◌||◌, not, List, [], ◌∷◌, Some, nat_eq, nat_lt, if◌then◌else◌, refl}
 use Rattle.std.proofs.Common.{ap, ◌∙◌, sym, subst, inl, inr, arith}
-use Rattle.std.proofs.lemmas.Bool.{false≢true, or_left, or_from, eq-eqb, ne_eqb, ltb-true, ltb-false, eqb-true, eqb-false, cases_lt, cases_order, cases_Bool, cases_eq, cond_both, cond-true, cond-false, lt-ltb, le-ltb}
+use Rattle.std.proofs.lemmas.Bool.{false≢true, or_left, or_from, eq-eqb, ne_eqb, ltb-true, ltb-false, eqb-true, eqb-false, cases_lt, cases_order, cond_both, cond-true, cond-false, lt-ltb, le-ltb}
 use Rattle.zir_names.specs.Numbers.{add, union, among, kept, without, least}
 use Rattle.zir_sharing.specs.Ascending.{AscendsFrom}
 

@@ -1,17 +1,17 @@
 -- Tables by number.
-use Rattle.std.specs.Prelude.{◌≡◌, ℕ, zero, suc, ◌<◌, ◌≤◌, ◌-◌, List, [], ◌∷◌, ◌++◌, Option, Some, None, true, false, length, nat_eq, reverse, slice_index_or, slice_set, if◌then◌else◌, refl}
+use Rattle.std.specs.Prelude.{◌≡◌, ℕ, suc, ◌<◌, ◌≤◌, ◌-◌, List, [], ◌∷◌, ◌++◌, Option, Some, None, true, false, length, nat_eq, reverse, slice_index_or, slice_set, if◌then◌else◌, refl}
 use Rattle.std.proofs.Common.{ap, ◌∙◌, sym, arith, inl, inr}
 use Rattle.std.specs.Option.{SomeIff}
-use Rattle.std.proofs.lemmas.Bool.{cases_eq, eq-eqb, ne_eqb, cond-true, cond-false, cond_both}
+use Rattle.std.proofs.lemmas.Bool.{cases_eq, eq-eqb, ne_eqb, cond-true, cond-false}
 use Rattle.std.proofs.lemmas.List.{get_or_append_left, get_or_push, get_or-set_same, get_or-set_other, reverse-append, length-reverse}
-use Rattle.zir_names.specs.Touched.{Touched, Called, untouched, call_of}
+use Rattle.zir_names.specs.Touched.{Touched, untouched, call_of}
 use Rattle.zir_sharing.specs.Places.{last_place, place_code, called_of, touched_at}
 use Rattle.zir_sharing.specs.Members.{word_at}
 use Rattle.zir_tree.specs.declared.place.Place.{Place}
 use Rattle.zir_sharing.specs.declared.splits.Mark.{Mark}
 use Rattle.zir_names.specs.Sharing.{Stand, Splits, first_place, body_splits, splits_of}
 use Rattle.zir_names.specs.Sharing as sharing
-use Rattle.zir_sharing.specs.Marks.{Marked, mark_of, marks_of, marked_of, mark_in, marked_at, at_stand}
+use Rattle.zir_sharing.specs.Marks.{mark_of, marks_of, marked_of, mark_in, marked_at, at_stand}
 
 -- a place that was found
 pub place_found : (o : Option ℕ) (p : ℕ) (r : Option ℕ) → p ≡ place_code o → SomeIff r (1 ≤ p) (p - 1) → r ≡ o

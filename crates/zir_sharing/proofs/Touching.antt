@@ -1,5 +1,5 @@
 -- What parts touch together, and the equations at the trees that code has.
-use Rattle.std.specs.Prelude.{◌≡◌, ℕ, ◌<◌, ◌+◌, List, [], ◌∷◌, Result, Ok, Err, OnOk, length, drop, slice_index_or, refl}
+use Rattle.std.specs.Prelude.{◌≡◌, ℕ, ◌<◌, ◌+◌, List, [], ◌∷◌, Result, OnOk, length, drop, slice_index_or, refl}
 use Rattle.std.proofs.Common.{ap, ◌∙◌, sym, subst}
 use Rattle.std.proofs.lemmas.List.{drop_more}
 use denote.Hole.Carrier.{hidden}
@@ -21,7 +21,7 @@ use Rattle.zir_tree.specs.declared.comp.Link.{Link}
 use Rattle.zir_tree.specs.declared.comp.Turning.{Turning}
 use Rattle.zir_tree.specs.declared.comp.Comp.TheBlock.{shape-the_row-Comp-0, hidden-the_row-Comp-0, shape-the_row-Member-1, hidden-the_row-Member-1}
 use Rattle.zir_tree.specs.declared.comp.Member.{Member, Bind, Var, Run}
-use Rattle.zir_names.specs.Touched.{Touched, Called, both, untouched, all_of, call_of, in_expr, in_exprs, in_stmt, in_stmts, in_comp, in_members}
+use Rattle.zir_names.specs.Touched.{Touched, Called, both, all_of, call_of, in_expr, in_exprs, in_stmt, in_stmts, in_comp, in_members}
 use Rattle.zir_sharing.specs.Ascending.{in_member}
 use Rattle.zir_sharing.proofs.Sets.{union_then}
 

@@ -1,5 +1,5 @@
 -- The rules of sharing over members and declarations as lists.
-use Rattle.std.specs.Prelude.{List, [], ◌∷◌}
+use Rattle.std.specs.Prelude.{List, []}
 use Rattle.zir_tree.specs.declared.comp.Comp.{Comp}
 use Rattle.zir_tree.specs.declared.comp.Member.{Member, Bind, Var, Run}
 use Rattle.zir_tree.specs.declared.program.Decl.{Decl}

@@ -1,5 +1,5 @@
 -- Which numbers a list of words stands for, and where a number was met last in a list.
-use Rattle.std.specs.Prelude.{ℕ, zero, suc, ◌+◌, ◌*◌, ◌/◌, ◌%◌, Bool, List, [], ◌∷◌, Option, Some, None, length, nat_eq, if◌then◌else◌, slice_index}
+use Rattle.std.specs.Prelude.{ℕ, zero, suc, ◌*◌, ◌/◌, ◌%◌, Bool, List, [], ◌∷◌, length, nat_eq, if◌then◌else◌, slice_index}
 use Rattle.std.specs.Int.{bit_at}
 
 -- The word at a place; there are only noughts behind the last.

@@ -8,10 +8,10 @@ ghost use Rattle.zir_sharing.specs.Ascending.{AllAscend};
 use crate::component::touch_comp;
 use crate::functions::Functions;
 use crate::number_set::NumberSet;
-use zir_names::Named;
 use crate::statement::{touch_body, touch_var};
 use crate::touched::Touched;
 use std::alloc::{AllocError, Global};
+use zir_names::Named;
 use zir_tree::program::Decl;
 
 /// The variables that are declared at the top.

@@ -27,7 +27,9 @@ fn own_declared(
     right: &Comp,
 ) -> Result<NumberSet, AllocError>
     requires { AllAscend functions.now }
-    ensures { IfOk result (λ own. unwrap_or (option_copied chain.entry) own ≡ chain_declares (option_copied chain.entry) (in_comp functions.now left.now) (in_comp functions.now right.now)) }
+    ensures { IfOk result (λ own.
+        unwrap_or (option_copied chain.entry) own
+        ≡ chain_declares (option_copied chain.entry) (in_comp functions.now left.now) (in_comp functions.now right.now)) }
 {
     match chain {
         Some(_) => Ok(NumberSet::new(alloc)),

@@ -6,10 +6,10 @@ ghost use Rattle.zir_sharing.specs.Answers.{Answers};
 use crate::declarations::functions_of;
 use crate::error::ShareError;
 use crate::outer::check_outer;
-use zir_names::Named;
 use crate::shared::check_shared;
 use crate::splits::check_splits;
 use std::alloc::Global;
+use zir_names::Named;
 
 /// Whether the sides of compositions share only what they may, and splits stand only where they may. A refusal is the
 /// first: all of `Shared`, in the order of the text and the `fun comp`s before main, stands before `SplitPlace`, whose

@@ -5,8 +5,8 @@ ghost use Rattle.zir_names.specs.Touched.{uses as uses_of, assigns as assigns_of
 
 use crate::component::touched_by;
 use crate::declarations::{functions_of, variables_of};
-use zir_names::Named;
 use std::alloc::{AllocError, Global};
+use zir_names::Named;
 use zir_tree::comp::Comp;
 
 /// The numbers of the variables that a component of a program reads or assigns, itself or in the functions that it calls,

@@ -161,7 +161,8 @@ fn earliest(a: Option<Place>, b: Option<Place>) -> Option<Place>
 /// The first place in a component, and in the bodies that it calls, where a split is refused.
 #[cycle(splits)]
 fn first_split(marks: &Marks, stand: Standing, c: &Comp) -> Option<Place>
-    ensures { (ss : List Splits) → marks_for ss ≡ marks.now → result ≡ first_place (places_of ss (stand_of stand) c.now) }
+    ensures { (ss : List Splits) → marks_for ss ≡ marks.now →
+        result ≡ first_place (places_of ss (stand_of stand) c.now) }
 {
     match c {
         Comp::Take(_) => None,
@@ -194,7 +195,8 @@ fn first_split(marks: &Marks, stand: Standing, c: &Comp) -> Option<Place>
 /// The same in a member.
 #[cycle(splits)]
 fn first_in_member(marks: &Marks, stand: Standing, m: &Member) -> Option<Place>
-    ensures { (ss : List Splits) → marks_for ss ≡ marks.now → result ≡ first_place (of_member (places_of ss (stand_of stand)) m.now) }
+    ensures { (ss : List Splits) → marks_for ss ≡ marks.now →
+        result ≡ first_place (of_member (places_of ss (stand_of stand)) m.now) }
 {
     match m {
         Member::Bind(_, c) => first_split(marks, stand, c),
@@ -206,7 +208,8 @@ fn first_in_member(marks: &Marks, stand: Standing, m: &Member) -> Option<Place>
 /// The same in members.
 #[cycle(splits)]
 fn first_in_members(marks: &Marks, stand: Standing, ms: &[Member]) -> Option<Place>
-    ensures { (ss : List Splits) → marks_for ss ≡ marks.now → result ≡ first_place (flat_map (of_member (places_of ss (stand_of stand))) ms.now) }
+    ensures { (ss : List Splits) → marks_for ss ≡ marks.now →
+        result ≡ first_place (flat_map (of_member (places_of ss (stand_of stand))) ms.now) }
 {
     let mut found = None;
     for m in ms {
@@ -217,7 +220,8 @@ fn first_in_members(marks: &Marks, stand: Standing, ms: &[Member]) -> Option<Pla
 
 /// The marks of a declaration and of those before it.
 fn with_declaration(marks: Marks, d: &Decl) -> Result<Marks, AllocError>
-    ensures { (ss : List Splits) → marks_for ss ≡ marks → IfOk result (λ made. made ≡ marks_for (splits_from ss (d.now ∷ []))) }
+    ensures { (ss : List Splits) → marks_for ss ≡ marks →
+        IfOk result (λ made. made ≡ marks_for (splits_from ss (d.now ∷ []))) }
 {
     match d {
         Decl::Var(_) => Ok(marks),

@@ -16,7 +16,8 @@ pub fn word_at(words: &[u64], at: usize) -> u64
 pub fn widen(words: &mut Vec<u64>, count: usize) -> Result<(), AllocError>
     ensures same { (k : ℕ) → word_of words.new.items k ≡ word_of words.old.items k }
     ensures wide { OnOk result (count ≤ length words.new.items) }
-    ensures small { (most : ℕ) → length words.old.items ≤ most → count ≤ most → length words.new.items ≤ most }
+    ensures small { (most : ℕ) → length words.old.items ≤ most → count ≤ most →
+        length words.new.items ≤ most }
 {
     if words.len() < count {
         words.resize(count, 0)?;
@@ -71,7 +72,8 @@ fn has(words: &[u64], n: usize) -> bool
 /// The least number whose bit is set.
 pub fn first(words: &[u64]) -> Option<u32>
     requires { length words.now ≤ 2 ^ 26 }
-    ensures { MatchOption result ((q : ℕ) → holds words.now q ≡ false) (λ n. (holds words.now n ≡ true) × ((q : ℕ) → q < n → holds words.now q ≡ false)) }
+    ensures { MatchOption result ((q : ℕ) → holds words.now q ≡ false)
+        (λ n. (holds words.now n ≡ true) × ((q : ℕ) → q < n → holds words.now q ≡ false)) }
 {
     for (i, word) in words.iter().enumerate() {
         if *word != 0 {

@@ -1,5 +1,5 @@
 use Rattle.std.proofs.Common.{◌≡◌, [], drop}
-use Rattle.zir_names.specs.Touched.{functions_from, tops}
+use Rattle.zir_names.specs.Touched.{functions_from}
 use Rattle.zir_sharing.specs.Ascending.{AllAscend}
 use Rattle.zir_sharing.proofs.declarations.functions_among.Given as goal
 

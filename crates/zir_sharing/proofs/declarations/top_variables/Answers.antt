@@ -1,4 +1,4 @@
-use Rattle.std.proofs.Common.{◌≡◌, ◌∙◌, ◌+◌, ap, sym, arith, drop}
+use Rattle.std.proofs.Common.{◌∙◌, ◌+◌, ap, sym, arith, drop}
 use Rattle.zir_names.specs.Numbers.{union}
 use Rattle.zir_names.specs.Touched.{tops}
 use Rattle.zir_sharing.proofs.Sets.{union_none}

@@ -1,4 +1,4 @@
-use Rattle.std.proofs.Common.{◌≡◌, ◌∙◌, ◌++◌, [], ap, sym, subst, arith, drop}
+use Rattle.std.proofs.Common.{◌≡◌, ◌∙◌, [], ap, sym, arith}
 use Rattle.std.proofs.lemmas.List.{at_drop_all}
 use Rattle.zir_names.specs.Touched.{Touched, both, all_of, in_decl, in_comp, untouched}
 use Rattle.zir_sharing.proofs.Touching.{rest_step}

@@ -1,4 +1,4 @@
-use Rattle.std.proofs.Common.{◌≡◌, [], drop}
+use Rattle.std.proofs.Common.{◌≡◌, drop}
 use Rattle.zir_names.specs.Touched.{both, all_of, in_decl, untouched}
 use Rattle.zir_sharing.proofs.declarations.variables_of.Given as goal
 

@@ -1,6 +1,5 @@
 use Rattle.std.proofs.Common.{◌≡◌, ◌++◌, drop}
 use Rattle.std.specs.List.{flat_map}
-use Rattle.std.specs.Prelude.{None}
 use Rattle.zir_sharing.specs.Blocks.{of_decl}
 use Rattle.zir_names.specs.Sharing.{first_shared, joints, throughout}
 use Rattle.zir_sharing.proofs.shared.check_shared.Given as goal

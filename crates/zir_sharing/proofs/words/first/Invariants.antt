@@ -1,4 +1,4 @@
-use Rattle.std.proofs.Common.{◌≡◌, ℕ, ◌<◌, length}
+use Rattle.std.proofs.Common.{◌≡◌, ℕ, ◌<◌}
 use Rattle.zir_sharing.specs.Members.{word_at}
 use Rattle.zir_sharing.proofs.words.first.Given as goal
 

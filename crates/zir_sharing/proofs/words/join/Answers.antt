@@ -1,4 +1,4 @@
-use Rattle.std.proofs.Common.{◌≡◌, arith, inl, inr, ap, ◌∙◌, sym, length}
+use Rattle.std.proofs.Common.{arith, inl, inr, ap, ◌∙◌, sym, length}
 use Rattle.std.specs.Prelude.{bit_or, ◌≤◌}
 use Rattle.std.proofs.lemmas.Bool.{cases_lt}
 use Rattle.std.proofs.lemmas.List.{get_or_past}

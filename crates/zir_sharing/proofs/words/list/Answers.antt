@@ -1,4 +1,4 @@
-use Rattle.std.proofs.Common.{◌∙◌, ap, sym, ◌++◌, ◌∷◌, []}
+use Rattle.std.proofs.Common.{◌∙◌, sym}
 use Rattle.zir_sharing.specs.Members.{holds}
 use Rattle.zir_sharing.proofs.Held.{chosen_found, chosen_passed}
 use Rattle.zir_sharing.proofs.words.list.Goals as goal

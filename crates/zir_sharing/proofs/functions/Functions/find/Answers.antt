@@ -1,4 +1,4 @@
-use Rattle.std.proofs.Common.{◌≡◌, ◌<◌, ◌≤◌, ◌∙◌, ap, sym, arith, length}
+use Rattle.std.proofs.Common.{◌<◌, ◌≤◌, ◌∙◌, ap, sym, arith, length}
 use Rattle.std.proofs.lemmas.List.{get_or_read, get_or_past}
 use Rattle.zir_names.specs.Touched.{call_of, untouched}
 use Rattle.zir_sharing.specs.Places.{touched_at}

@@ -1,5 +1,3 @@
-use Rattle.std.proofs.Common.{◌≡◌, ◌∙◌, ap, sym, ◌∷◌, ◌++◌, []}
-use Rattle.zir_sharing.specs.Places.{called_of}
 use Rattle.zir_sharing.proofs.Tables.{called_more}
 use Rattle.zir_sharing.proofs.functions.Functions.with.Goals as goal
 

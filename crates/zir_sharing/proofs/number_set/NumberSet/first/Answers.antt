@@ -1,4 +1,4 @@
-use Rattle.std.proofs.Common.{◌∙◌, ap, subst}
+use Rattle.std.proofs.Common.{◌∙◌, ap}
 use Rattle.zir_names.specs.Numbers.{least}
 use Rattle.zir_sharing.proofs.Held.{first_least}
 use Rattle.zir_sharing.proofs.number_set.NumberSet.first.Goals as goal

@@ -1,4 +1,4 @@
-use Rattle.std.proofs.Common.{◌≡◌, ◌∙◌, ap, sym}
+use Rattle.std.proofs.Common.{◌∙◌, ap, sym}
 use Rattle.zir_sharing.specs.Marks.{stand_of, mark_in}
 use Rattle.zir_sharing.proofs.Tables.{mark_at, marked_last}
 use Rattle.zir_sharing.proofs.splits.Marks.find.Goals as goal

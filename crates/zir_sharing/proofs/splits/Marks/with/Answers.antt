@@ -1,5 +1,3 @@
-use Rattle.std.proofs.Common.{◌≡◌, ◌∙◌, ap, sym, ◌∷◌, ◌++◌, []}
-use Rattle.zir_sharing.specs.Marks.{marked_of}
 use Rattle.zir_sharing.proofs.Tables.{marked_more}
 use Rattle.zir_sharing.proofs.splits.Marks.with.Goals as goal
 
