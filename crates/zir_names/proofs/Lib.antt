@@ -4,3 +4,5 @@ pub mod ExpressionEquations
 pub mod StatementEquations
 pub mod ComponentEquations
 pub mod Declarations
+pub mod Chains
+pub mod Fields

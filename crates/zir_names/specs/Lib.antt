@@ -1,6 +1,7 @@
 -- The rules of names and of sharing.
 pub mod Walk
 pub mod Scope
+pub mod Buckets
 pub mod Expressions
 pub mod Statements
 pub mod Components

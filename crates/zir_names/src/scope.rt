@@ -1,10 +1,11 @@
 // What is in scope.
 
-ghost use Rattle.std.specs.Prelude.{◌≡◌, ◌++◌, ◌∷◌, [], take, length, OnOk, IfOk, OnErr, ◌≤◌};
+ghost use Rattle.std.specs.Prelude.{◌≡◌, ℕ, ◌++◌, ◌∷◌, [], ◌-◌, ◌<◌, ◌≤◌, take, length, slice_index, OnOk, IfOk, OnErr};
 ghost use Rattle.std.specs.Option.{option_copied};
 ghost use Rattle.zir_names.specs.Walk.{Told, Fine};
 ghost use Rattle.zir_names.specs.Scope.{nothing_seen, suits as suiting, used_as as using_as, find as finding};
 ghost use Rattle.zir_names.specs.Scope.{resolved, numbered, counted, opened, once, done, ToldIn};
+ghost use Rattle.zir_names.specs.Buckets.{bucket};
 ghost use Rattle.zir_names.specs.declared.error.NameError.TheVariants.{Memory};
 
 use crate::error::NameError;
@@ -57,10 +58,22 @@ pub struct Entry {
     pub kind: Kind,
 }
 
-/// The declarations in scope, in the order of the text, and the number of the next one.
+/// A declaration in scope, and one more than the index of the last one before it in its bucket, or 0.
+#[derive(Debug, Drop)]
+pub struct Link {
+    pub entry: Entry,
+    pub older: usize,
+}
+
+/// How many buckets a scope has.
+const BUCKETS: usize = 4096;
+
+/// The declarations in scope, in the order of the text, and the number of the next one. Each bucket has one more than the
+/// index of its last declaration, or 0, and each declaration the same of those before it.
 #[derive(Debug, Drop)]
 pub struct Scope {
-    entries: Vec<Entry>,
+    links: Vec<Link>,
+    heads: Vec<usize>,
     next: u32,
 }
 
@@ -69,7 +82,11 @@ impl Model for Scope {
 
     ghost Value = { Seen };
 
-    ghost view = { λ scope. record { open_ = scope.entries.items; next = scope.next } };
+    ghost use Rattle.zir_names.specs.Buckets.{entries, IsChained};
+
+    ghost view = { λ scope. record { open_ = entries scope.links.items; next = scope.next } };
+
+    ghost invariant = { λ scope. IsChained scope.links.items scope.heads.items };
 }
 
 impl Scope {
@@ -78,7 +95,8 @@ impl Scope {
         ensures { result ≡ nothing_seen }
     {
         Scope {
-            entries: Vec::new(alloc),
+            links: Vec::new(alloc),
+            heads: Vec::new(alloc),
             next: 1,
         }
     }
@@ -87,20 +105,22 @@ impl Scope {
     pub fn len(&self) -> usize
         ensures { result ≡ length self.now.open_ }
     {
-        self.entries.len()
+        self.links.len()
     }
 
     /// The last declaration of a name.
     fn find(&self, name: &Name) -> Option<&Entry>
         ensures { option_copied result ≡ finding self.now.open_ name.now }
     {
-        let mut found = None;
-        for entry in &self.entries {
-            if entry.name.as_slice() == name.as_slice() {
-                found = Some(entry);
+        let mut at = head_at(&self.heads, bucket_of(name.as_slice()));
+        while at > 0 {
+            let link = &self.links[at - 1];
+            if link.entry.name.as_slice() == name.as_slice() {
+                return Some(&link.entry);
             }
+            at = link.older;
         }
-        found
+        None
     }
 
     /// A use of a name, with the number of the declaration that it means.
@@ -140,16 +160,67 @@ impl Scope {
     {
         let name = Name::from_slice(alloc, x.name.as_slice())?;
         let id = x.id;
-        self.entries.push(Entry { name, id, kind })?;
+        let bucket = bucket_of(name.as_slice());
+        widen(&mut self.heads)?;
+        let older = self.heads[bucket];
+        let entry = Entry { name, id, kind };
+        self.links.push(Link { entry, older })?;
+        self.heads[bucket] = self.links.len();
         Ok(())
+    }
+
+    /// The last declaration leaves the scope.
+    fn leave_last(&mut self)
+        ensures { self.new ≡ record { open_ = take (length self.old.open_ - 1) self.old.open_; next = self.old.next } }
+    {
+        if let Some(link) = self.links.pop() {
+            let bucket = bucket_of(link.entry.name.as_slice());
+            self.heads[bucket] = link.older;
+        }
     }
 
     /// All but the first so many declarations leave the scope.
     pub fn leave(&mut self, count: usize)
         ensures { self.new ≡ record { open_ = take count self.old.open_; next = self.old.next } }
     {
-        self.entries.truncate(count);
+        while self.len() > count {
+            self.leave_last();
+        }
     }
+}
+
+/// The bucket of a name.
+fn bucket_of(name: &[u8]) -> usize
+    ensures value { result ≡ bucket name.now }
+    ensures within { result < 4096 }
+{
+    let mut hash: u32 = 0;
+    for byte in name {
+        hash = (hash * 257 + u32::from(*byte)) % 65521;
+    }
+    hash as usize % BUCKETS
+}
+
+/// One more than the index of the last declaration in a bucket, or 0.
+fn head_at(heads: &[usize], bucket: usize) -> usize
+    ensures { result ≡ slice_index heads.now bucket }
+{
+    if bucket < heads.len() {
+        heads[bucket]
+    } else {
+        0
+    }
+}
+
+/// Room for all buckets.
+fn widen(heads: &mut Vec<usize>) -> Result<(), AllocError>
+    ensures same { (b : ℕ) → slice_index heads.new.items b ≡ slice_index heads.old.items b }
+    ensures wide { OnOk result (4096 ≤ length heads.new.items) }
+{
+    if heads.len() < BUCKETS {
+        heads.resize(BUCKETS, 0)?;
+    }
+    Ok(())
 }
 
 /// Whether a need accepts a kind.

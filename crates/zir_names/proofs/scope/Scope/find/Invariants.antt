@@ -1,8 +1,9 @@
-use Rattle.std.proofs.Common.{◌≡◌, drop}
-use Rattle.std.specs.Option.{option_copied}
-use Rattle.zir_names.specs.Scope.{find as finding, or_else}
+use Rattle.zir_names.proofs.Chains.{Reaches}
 use Rattle.zir_names.proofs.scope.Scope.find.Given as goal
 
--- a declaration further on comes before the one found so far
-abbrev pub invariant-loop-entry : goal.invariant-loop-entry
-invariant-loop-entry l = (l.entry-items ≡ l.self.open_) × (or_else (finding (drop l.entry-index l.entry-items) l.name) (option_copied l.found) ≡ finding l.entry-items l.name)
+-- the declarations up to this place have what all have of the name
+abbrev pub invariant-loop-at : goal.invariant-loop-at
+invariant-loop-at l = Reaches l.self-inside.links.items l.name l.at
+
+abbrev pub decreases-loop-at : goal.decreases-loop-at
+decreases-loop-at l = l.at
