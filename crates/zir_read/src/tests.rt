@@ -28,7 +28,7 @@ fn texts_are_read_or_refused_at_their_places(rt: HostRuntime) -> Result<(), Fail
         (b"@", (b'b', 1, 1)),
         (b"09a", (b'n', 1, 1)),
         (b"let comp\n  main ", (b's', 2, 7)),
-        (b"let comp main = emit", (b's', 1, 21)),
+        (b"let comp main =", (b's', 1, 16)),
     ];
     for (text, want) in rows {
         assert_eq!(rt; answer(rt.alloc(), text), want);
