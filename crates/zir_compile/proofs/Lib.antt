@@ -1,0 +1,9 @@
+pub mod Equations
+pub mod Counts
+pub mod Finding
+pub mod Numbers
+pub mod Rows
+pub mod Same
+pub mod Stating
+pub mod Walking
+pub mod Scoping
