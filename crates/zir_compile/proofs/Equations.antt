@@ -38,10 +38,10 @@ no_second : (a b : Bool) → b ≡ false → a && b ≡ false
 no_second true b h = h
 no_second false b h = refl
 
-lt_true : (m n : ℕ) → m < n → nat_lt m n ≡ true
+pub lt_true : (m n : ℕ) → m < n → nat_lt m n ≡ true
 lt_true m n h = grind (arith, nat_tests)
 
-lt_false : (m n : ℕ) → n ≤ m → nat_lt m n ≡ false
+pub lt_false : (m n : ℕ) → n ≤ m → nat_lt m n ≡ false
 lt_false m n h = grind (arith, nat_tests)
 
 pub and_second : (a b : Bool) → a && b ≡ true → b ≡ true

@@ -1,5 +1,4 @@
 pub mod Equations
-pub mod Counts
 pub mod Finding
 pub mod Numbers
 pub mod Rows
@@ -7,3 +6,6 @@ pub mod Same
 pub mod Stating
 pub mod Walking
 pub mod Scoping
+pub mod Needing
+pub mod Bodies
+pub mod Signed

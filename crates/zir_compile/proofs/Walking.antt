@@ -13,38 +13,7 @@ use Rattle.zir_code.specs.Coding.{room_of, room_in_all}
 use Rattle.zir_code.specs.Forms.{is_coded}
 use Rattle.zir_compile.specs.Lists.{Coded, GrownAll}
 use Rattle.zir_compile.proofs.Equations.{no_argument, one_argument}
-use Rattle.zir_compile.proofs.Counts.{most_here}
 use Rattle.zir_compile.proofs.Finding.{at_place}
-
--- all have code where each had up to the end
-pub forms_end : (g : Scope) (es : List Expr) (n : ℕ) → length es ≤ n → list_all (is_coded g) es ≡ list_all (is_coded g) (drop n es) → true ≡ list_all (is_coded g) es
-forms_end g es n h e = sym (e ∙ at_drop_all (list_all (is_coded g)) es n h)
-
--- one that has no code
-pub forms_stop : (g : Scope) (es : List Expr) (n : ℕ) (e : Expr) → n < length es → e ≡ get_or es n e → is_coded g e ≡ false →
-    list_all (is_coded g) es ≡ list_all (is_coded g) (drop n es) → false ≡ list_all (is_coded g) es
-forms_stop g es n e h at f i = sym (i ∙ ap (list_all (is_coded g)) (at_place es n e h at) ∙ ap (λ b. b && list_all (is_coded g) (drop (n + 1) es)) f)
-
--- one that has code
-pub forms_on : (g : Scope) (es : List Expr) (n : ℕ) (e : Expr) → n < length es → e ≡ get_or es n e → is_coded g e ≡ true →
-    list_all (is_coded g) es ≡ list_all (is_coded g) (drop n es) → list_all (is_coded g) es ≡ list_all (is_coded g) (drop (n + 1) es)
-forms_on g es n e h at f i = i ∙ ap (list_all (is_coded g)) (at_place es n e h at) ∙ ap (λ b. b && list_all (is_coded g) (drop (n + 1) es)) f
-
--- the cells of all, at the end
-pub rooms_end : (g : Scope) (es : List Expr) (n most before r : ℕ) → length es ≤ n → most < 2 ^ 64 → before < 2 ^ 64 → r ≡ max most before →
-    capped (room_in_all g es) ≡ capped (max most (before + room_in_all g (drop n es))) → r ≡ capped (room_in_all g es)
-rooms_end g es n most before r h a b e i =
-    let last : room_in_all g (drop n es) ≡ 0 = at_drop_all (room_in_all g) es n h in
-    omega arith
-
--- the cells of one more
-pub rooms_on : (g : Scope) (es : List Expr) (n most most' before before' room : ℕ) (e : Expr) → n < length es → e ≡ get_or es n e → room ≡ capped (room_of g e) →
-    most' ≡ max most (capped (room + before)) → before' ≡ capped (before + 1) → before < 2 ^ 64 → most < 2 ^ 64 →
-    capped (room_in_all g es) ≡ capped (max most (before + room_in_all g (drop n es))) →
-    capped (room_in_all g es) ≡ capped (max most' (before' + room_in_all g (drop (n + 1) es)))
-rooms_on g es n most most' before before' room e h at q f k a b i =
-    most_here (room_in_all g es) most most' before before' (room_of g e) (room_in_all g (drop (n + 1) es))
-    (i ∙ ap (λ (xs : List Expr). capped (max most (before + room_in_all g xs))) (at_place es n e h at)) (f ∙ ap (λ x. max most (capped (x + before))) q) k a b
 
 -- the code of all arguments, at the end
 pub arguments_end : (g : Scope) (es : List Expr) (n at d : ℕ) (old steps : List Step) → length es ≤ n →

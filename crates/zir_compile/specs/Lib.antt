@@ -2,3 +2,4 @@ pub mod Names
 pub mod Lists
 pub mod Growing
 pub mod Made
+pub mod Signing

@@ -2,6 +2,8 @@
 #![tactic(auto)]
 
 pub mod expressions;
+mod functions;
+mod needs;
 mod operators;
 mod rooms;
 pub mod scope;

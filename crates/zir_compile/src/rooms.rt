@@ -45,7 +45,7 @@ impl Names {
     }
 
     /// The cells of what a call calls.
-    fn callee_needs(&self, callee: Callee) -> u64
+    pub(crate) fn callee_needs(&self, callee: Callee) -> u64
         ensures { result ≡ capped (coding.callee_needs (scope_of self.now) callee) }
     {
         match callee {
@@ -117,7 +117,7 @@ impl Names {
 
     /// How many free cells the code of arguments uses.
     #[cycle(rooms)]
-    fn rooms(&self, es: &[Expr]) -> u64
+    pub(crate) fn rooms(&self, es: &[Expr]) -> u64
         ensures { result ≡ capped (coding.room_in_all (scope_of self.now) es.now) }
     {
         let mut most = 0u64;

@@ -22,7 +22,7 @@ use zir_tree::types::{Base, Ty, TypeExpr};
 const ERROR: u8 = 5;
 
 /// A type as it is written.
-pub fn type_of(alloc: Global, ty: &TypeExpr) -> Result<Ty, AllocError>
+pub(crate) fn type_of(alloc: Global, ty: &TypeExpr) -> Result<Ty, AllocError>
     ensures { IfOk result (λ made. made ≡ values.type_of ty.now) }
 {
     let mut lengths = Items::new(alloc);
@@ -50,7 +50,7 @@ fn counter(alloc: Global, id: u32, d: u32) -> Holder
 
 impl Names {
     /// Adds the code of an expression, where it has one, and answers where its value then stands.
-    fn value(
+    pub(crate) fn value(
         &self,
         alloc: Global,
         e: &Expr,
@@ -338,7 +338,7 @@ impl Names {
 
     /// The code of statements in a scope of their own, where they have one.
     #[cycle(stating)]
-    fn block(
+    pub(crate) fn block(
         &mut self,
         alloc: Global,
         statements: &[Stmt],
@@ -359,7 +359,7 @@ impl Names {
 
     /// Adds the code of statements one after the other, where each has one, and answers the first free cell behind them.
     #[cycle(stating)]
-    fn row(
+    pub(crate) fn row(
         &mut self,
         alloc: Global,
         statements: &[Stmt],
