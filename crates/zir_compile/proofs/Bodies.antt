@@ -42,15 +42,3 @@ bodies_made g g' ss r d free mid new row value = λ room.
       both_true _ _ here.0 v.0,
       code ∙ ap (λ (steps : List Step). steps ++ result_code g2 d2 r) here.3,
     )
-
--- one more parameter
-pub parameters_on : (ps : List Field) (n : ℕ) (p : Field) (made next : List Holder) (h : Holder) → n < length ps → p ≡ get_or ps n p →
-    h ≡ record { id = p.name.id; spot = Local n; cells = 1; ty = type_of p.ty } → next ≡ made ++ h ∷ [] →
-    parameters 0 ps ≡ made ++ parameters n (drop n ps) → parameters 0 ps ≡ next ++ parameters (n + 1) (drop (n + 1) ps)
-parameters_on ps n p made next h lt at e f i =
-    let rest = parameters (n + 1) (drop (n + 1) ps) in
-    i ∙ ap (λ (xs : List Field). made ++ parameters n xs) (at_place ps n p lt at) ∙ ap (λ (x : Holder). made ++ (x ∷ rest)) (sym e)
-    ∙ sym (append_assoc made (h ∷ []) rest) ∙ ap (λ (xs : List Holder). xs ++ rest) (sym f)
-
-pub parameters_end : (ps : List Field) (n : ℕ) (made : List Holder) → length ps ≤ n → parameters 0 ps ≡ made ++ parameters n (drop n ps) → made ≡ parameters 0 ps
-parameters_end ps n made h i = sym (i ∙ ap (λ (xs : List Field). made ++ parameters n xs) (drop_all n ps h) ∙ append-nil made)

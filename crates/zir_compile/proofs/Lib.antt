@@ -9,3 +9,4 @@ pub mod Scoping
 pub mod Needing
 pub mod Bodies
 pub mod Signed
+pub mod Typed

@@ -170,7 +170,7 @@ counted g name a n b p d d' old new body (Some free) k bb c = λ room.
       c.2,
       refl,
       c.4 (omega arith) ∙ ap (λ (steps : List Step). old ++ (code_of g a d ++ (Copy (Local d) (stands g a d) ∷ (code_of g n (d + 1)
-      ++ (Copy (Local (d + 1)) (stands g n (d + 1)) ∷ Count (record { turns = Local (d + 1); index = Local d; body = steps }) ∷ []))))) (here.1 ∙ sym (steps-list g' (d + 1) b)),
+          ++ (Copy (Local (d + 1)) (stands g n (d + 1)) ∷ Count (record { turns = Local (d + 1); index = Local d; body = steps }) ∷ []))))) (here.1 ∙ sym (steps-list g' (d + 1) b)),
     )
 
 -- the first index and the number of turns
@@ -204,9 +204,9 @@ counts_on g a n d d' old mid new steps k v f = (
       let last : List Step = Count (record { turns = Local (d + 1); index = Local d; body = steps }) ∷ [] in
       let f' : new ≡ mid ++ last = subst (λ q. new ≡ mid ++ Count (record { turns = Local q; index = Local d; body = steps }) ∷ []) same f in
       f' ∙ ap (λ (ss : List Step). ss ++ last) (v.1 room)
-          ∙ append_assoc old (code_of g a d ++ (Copy (Local d) (stands g a d) ∷ (code_of g n (d + 1) ++ Copy (Local (d + 1)) (stands g n (d + 1)) ∷ []))) last
-          ∙ ap (λ (ss : List Step). old ++ ss) (append_assoc (code_of g a d) (Copy (Local d) (stands g a d) ∷ (code_of g n (d + 1) ++ Copy (Local (d + 1)) (stands g n (d + 1)) ∷ [])) last)
-          ∙ ap (λ (ss : List Step). old ++ (code_of g a d ++ (Copy (Local d) (stands g a d) ∷ ss))) (append_assoc (code_of g n (d + 1)) (Copy (Local (d + 1)) (stands g n (d + 1)) ∷ []) last),
+      ∙ append_assoc old (code_of g a d ++ (Copy (Local d) (stands g a d) ∷ (code_of g n (d + 1) ++ Copy (Local (d + 1)) (stands g n (d + 1)) ∷ []))) last
+      ∙ ap (λ (ss : List Step). old ++ ss) (append_assoc (code_of g a d) (Copy (Local d) (stands g a d) ∷ (code_of g n (d + 1) ++ Copy (Local (d + 1)) (stands g n (d + 1)) ∷ [])) last)
+      ∙ ap (λ (ss : List Step). old ++ (code_of g a d ++ (Copy (Local d) (stands g a d) ∷ ss))) (append_assoc (code_of g n (d + 1)) (Copy (Local (d + 1)) (stands g n (d + 1)) ∷ []) last),
 )
 
 -- the same where the scope is that of names that came back

@@ -94,3 +94,18 @@ no_signature k = None
 -- the signatures of all functions of a program
 abbrev pub signatures_of : List Holder → List Function → List (Option Signature)
 signatures_of tops fs = signatures_after tops no_signature 0 fs
+
+-- a function is well typed in the cells of its signature, or has none
+abbrev pub FineIn : List Holder → (ℕ → Option Signature) → Function → Option Signature → Type 0
+FineIn tops funs f None = Unit {0}
+FineIn tops funs f (Some made) = FineBody (at_top tops funs) made.needs f.params f.body.statements f.body.result made.result
+
+-- functions behind n others are well typed, each over the signatures of those before it
+abbrev pub FineAfter : List Holder → (ℕ → Option Signature) → ℕ → List Function → Type 0
+FineAfter tops funs n [] = Unit {0}
+FineAfter tops funs n (f ∷ fs) =
+    FineIn tops funs f (signature_of (at_top tops funs) f) × FineAfter tops (one_more_signature funs n (signature_of (at_top tops funs) f)) (suc n) fs
+
+-- well typed functions have the signatures that are made for them
+abbrev pub TypedAreSigned : Type 0
+TypedAreSigned = (tops : List Holder) (fs : List Function) → FineAfter tops no_signature 0 fs → HaveSignatures tops no_signature 0 fs (signatures_of tops fs)

@@ -149,11 +149,7 @@ impl Names {
     }
 
     /// The signature of a function over the top variables and the functions before it, where calls of it have code.
-    fn signature_of(
-        &mut self,
-        alloc: Global,
-        f: &Function,
-    ) -> Result<Option<Signature>, AllocError>
+    fn signature_of(&mut self, alloc: Global, f: &Function) -> Result<Option<Signature>, AllocError>
         ensures below { OnOk result (signing.Below self.old self.new) }
         ensures made { IfOk result (λ made. made ≡ signing.signature_of (at_top (scope_of self.old).tops (scope_of self.old).funs) f.now) }
     {

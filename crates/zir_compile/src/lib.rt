@@ -2,9 +2,17 @@
 #![tactic(auto)]
 
 pub mod expressions;
-mod functions;
+pub mod functions;
 mod needs;
 mod operators;
 mod rooms;
 pub mod scope;
-mod statements;
+pub mod statements;
+
+ghost use Rattle.zir_compile.specs.Signing.{TypedAreSigned};
+
+/// Functions that are well typed in the cells of the signatures that are made for them have these signatures, so that their code does what
+/// they mean.
+pub fn typed_are_signed()
+    ensures { TypedAreSigned }
+{}

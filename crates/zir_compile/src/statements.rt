@@ -4,6 +4,7 @@ ghost use Rattle.std.specs.Prelude.{◌≡◌, [], ◌∷◌, ◌++◌, Some, If
 ghost use Rattle.zir_meaning.specs.Values as values;
 ghost use Rattle.zir_code.specs.Scopes.{variable};
 ghost use Rattle.zir_compile.specs.Growing.{Valued, Started, Targets, Ranged, Chosen, Turned, Counted, Stated, Blocked, Rowed, Moved, Same, index_of};
+ghost use Rattle.zir_compile.specs.Made.{written, scope_behind};
 ghost use Rattle.zir_compile.specs.Names.{scope_of};
 
 use crate::operators::is_scalar;
@@ -17,6 +18,13 @@ use zir_tree::expr::{Callee, Expr};
 use zir_tree::ident::Ident;
 use zir_tree::stmt::{Access, Stmt, Var};
 use zir_tree::types::{Base, Ty, TypeExpr};
+
+/// The code of statements, and the first free cell behind them.
+#[derive(Drop)]
+pub struct Written {
+    pub steps: Items<Step>,
+    pub free: u32,
+}
 
 /// Trap 5: a statement `error`.
 const ERROR: u8 = 5;
@@ -49,6 +57,34 @@ fn counter(alloc: Global, id: u32, d: u32) -> Holder
 }
 
 impl Names {
+    /// The code of statements, whose cells from d on are free. What they declare comes into scope. There is no code, and nothing comes into
+    /// scope, where they have a form that has no code yet, or where their cells pass those that 32 bits count.
+    pub fn statements(
+        &mut self,
+        alloc: Global,
+        statements: &[Stmt],
+        d: u32,
+    ) -> Result<Option<Written>, AllocError>
+        ensures code { IfOk result (λ made. made ≡ written (scope_of self.old) statements.now d) }
+        ensures scope { OnOk result (scope_of self.new ≡ scope_behind (scope_of self.old) statements.now d) }
+    {
+        if self.needs(statements, u64::from(d)) > u64::from(u32::MAX) {
+            return Ok(None);
+        }
+        let depth = self.locals.len();
+        let mut steps = Vec::new(alloc);
+        match self.row(alloc, statements, d, &mut steps)? {
+            None => {
+                self.locals.truncate(depth);
+                Ok(None)
+            }
+            Some(free) => {
+                let steps = Items::from_vec(steps);
+                Ok(Some(Written { steps, free }))
+            }
+        }
+    }
+
     /// Adds the code of an expression, where it has one, and answers where its value then stands.
     pub(crate) fn value(
         &self,
