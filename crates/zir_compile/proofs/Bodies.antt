@@ -1,22 +1,16 @@
 -- Bodies and parameters.
-use Rattle.std.specs.Prelude.{ℕ, suc, ◌+◌, ◌<◌, ◌≤◌, ◌^◌, max, List, [], ◌∷◌, ◌++◌, Bool, true, false, ◌&&◌, ◌≡◌, Option, Some, None, length, drop, refl}
-use Rattle.std.proofs.Common.{ap, sym, ◌∙◌, subst, append_assoc, append-nil, arith, get_or}
-use Rattle.std.proofs.lemmas.List.{drop_all}
-use Rattle.zir_tree.specs.declared.types.Field.{Field}
+use Rattle.std.specs.Prelude.{ℕ, ◌+◌, List, [], ◌∷◌, ◌++◌, true, ◌≡◌, Option, Some, None, refl}
+use Rattle.std.proofs.Common.{ap, ◌∙◌, subst, arith}
 use Rattle.zir_tree.specs.declared.stmt.Stmt.{Stmt}
 use Rattle.zir_tree.specs.declared.stmt.Return.{Return}
-use Rattle.zir_meaning.specs.Values.{type_of}
-use Rattle.zir_expr.specs.declared.frame.Spot.TheVariants.{Local}
 use Rattle.zir_expr.specs.declared.steps.Step.{Step}
-use Rattle.zir_code.specs.declared.scope.Holder.{Holder}
 use Rattle.zir_code.specs.Scopes.{Scope}
-use Rattle.zir_code.specs.Needs.{all_needs, result_needs}
+use Rattle.zir_code.specs.Needs.{result_needs}
 use Rattle.zir_code.specs.Statements.{scope_after, free_after}
-use Rattle.zir_code.specs.Bodies.{all_code, scope_after_all, free_after_all, parameters, result_code}
+use Rattle.zir_code.specs.Bodies.{scope_after_all, free_after_all, result_code}
 use Rattle.zir_code.proofs.Statements.{adds_statement}
 use Rattle.zir_compile.specs.Growing.{Rowed, RowedIf}
-use Rattle.zir_compile.specs.Signing.{returns_coded, Returned, Bodied}
-use Rattle.zir_compile.proofs.Finding.{at_place}
+use Rattle.zir_compile.specs.Signing.{Returned, Bodied}
 use Rattle.zir_compile.proofs.Same.{room_same}
 use Rattle.zir_compile.proofs.Stating.{both_true}
 

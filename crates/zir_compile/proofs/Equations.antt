@@ -1,5 +1,5 @@
 -- What the definitions of code say of the trees that the code of this crate sees.
-use Rattle.std.specs.Prelude.{ℕ, ◌+◌, ◌<◌, ◌≤◌, ◌^◌, max, List, [], ◌∷◌, ◌++◌, Bool, true, false, ◌&&◌, ◌≡◌, Option, Some, None, Result, Ok, Err, IfOk, OnOk, nat_lt, refl}
+use Rattle.std.specs.Prelude.{ℕ, ◌+◌, ◌<◌, ◌≤◌, ◌^◌, max, List, [], ◌∷◌, ◌++◌, Bool, true, false, ◌&&◌, ◌≡◌, Some, None, Result, Ok, Err, IfOk, OnOk, nat_lt, refl}
 use Rattle.std.specs.List.{list_all}
 use Rattle.std.proofs.Common.{ap, sym, ◌∙◌, subst, append_assoc, append-nil, arith}
 use Rattle.std.proofs.lemmas.Bool.Decides.{nat_tests}
@@ -13,12 +13,11 @@ use Rattle.zir_tree.specs.declared.expr.Operator.TheVariants.{Or, And, BitOr, Bi
 use Rattle.zir_tree.specs.declared.expr.Callee.{Callee}
 use Rattle.zir_tree.specs.declared.expr.Expr.{Expr, Unary, Binary, Convert, Call}
 use Rattle.zir_tree.specs.declared.expr.Expr.TheBlock.{shape-the_row-Expr-0, hidden-the_row-Expr-0, shape-the_row-Expr-1, hidden-the_row-Expr-1}
-use Rattle.zir_expr.specs.declared.scalar.Operation.{Operation}
 use Rattle.zir_expr.specs.declared.frame.Spot.{Spot}
 use Rattle.zir_expr.specs.declared.frame.Spot.TheVariants.{Local}
 use Rattle.zir_expr.specs.declared.steps.Step.{Step, Change as ChangeStep, Operate, Copy}
 use Rattle.zir_code.specs.Scopes.{Scope}
-use Rattle.zir_code.specs.Coding.{stands, code_of, room_of, arguments_code, arguments_room, callee_code, callee_needs, operator_code, operation_of, change_of, conversion_of, room_in_all, code_of_all}
+use Rattle.zir_code.specs.Coding.{stands, code_of, room_of, callee_code, callee_needs, operator_code, operation_of, change_of, conversion_of, room_in_all, code_of_all}
 use Rattle.zir_code.proofs.Arguments.{room-list, code-list}
 use Rattle.zir_code.specs.Forms.{is_coded, are_coded, is_called}
 use Rattle.zir_compile.specs.declared.expressions.Made.{Made}

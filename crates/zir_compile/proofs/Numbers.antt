@@ -1,6 +1,6 @@
 -- Whole numbers of a text as cells.
 use Rattle.std.specs.Prelude.{ℕ, suc, ℤ, pos, negsuc, ◌≡◌, ◌-◌, ◌%◌, ◌^◌, ◌<◌, Bool, true, false, refl}
-use Rattle.std.proofs.Common.{ap, ◌∙◌, sym, arith, to_z, of_z, FitsSigned}
+use Rattle.std.proofs.Common.{ap, ◌∙◌, arith, to_z, of_z, FitsSigned}
 use Rattle.std.specs.Int.{int_wrap}
 use mir.Syntax.{w64, w128}
 use mir.Val.{sel}

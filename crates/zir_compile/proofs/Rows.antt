@@ -1,15 +1,15 @@
 -- Loops along statements, and what comes into scope on the way.
-use Rattle.std.specs.Prelude.{◌≡◌, ℕ, ◌+◌, ◌<◌, ◌≤◌, ◌^◌, max, List, [], ◌∷◌, ◌++◌, length, drop, take, Bool, true, false, ◌&&◌, Option, Some, None, refl}
+use Rattle.std.specs.Prelude.{◌≡◌, ℕ, ◌+◌, ◌<◌, ◌≤◌, ◌^◌, max, List, [], ◌∷◌, ◌++◌, length, drop, false, Option, Some, None, refl}
 use Rattle.std.proofs.Common.{ap, ◌∙◌, sym, subst, get_or, append_assoc, append-nil, arith}
 use Rattle.std.proofs.lemmas.List.{drop_all}
 use Rattle.zir_tree.specs.declared.stmt.Stmt.{Stmt}
 use Rattle.zir_expr.specs.declared.steps.Step.{Step}
 use Rattle.zir_code.specs.declared.scope.Holder.{Holder}
 use Rattle.zir_code.specs.Scopes.{Scope}
-use Rattle.zir_code.specs.Forms.{does_code, all_code_forms}
+use Rattle.zir_code.specs.Forms.{all_code_forms}
 use Rattle.zir_code.specs.Needs.{needs_cells, all_needs}
 use Rattle.zir_code.specs.Statements.{stmt_code, scope_after, free_after}
-use Rattle.zir_code.specs.Bodies.{all_code, scope_after_all, free_after_all}
+use Rattle.zir_code.specs.Bodies.{all_code}
 use Rattle.zir_code.proofs.Statements.{adds_statement}
 use Rattle.zir_compile.specs.declared.scope.Names.{Names}
 use Rattle.zir_compile.specs.Growing.{Stated, StatedIf, Rowed, RowedIf, Moved}

@@ -1,5 +1,5 @@
 -- Signatures of functions, one after the other.
-use Rattle.std.specs.Prelude.{ℕ, zero, suc, ◌+◌, ◌<◌, ◌≤◌, ◌^◌, max, List, [], ◌∷◌, ◌++◌, Bool, true, false, ◌&&◌, ◌≡◌, Option, Some, None, nat_eq, nat_lt, length, drop, refl}
+use Rattle.std.specs.Prelude.{ℕ, zero, suc, ◌+◌, ◌<◌, ◌≤◌, ◌^◌, max, List, [], ◌∷◌, ◌++◌, true, ◌&&◌, ◌≡◌, Option, Some, None, nat_eq, nat_lt, length, drop, refl}
 use Rattle.std.specs.List.{list_all}
 use Rattle.std.proofs.Common.{ap, sym, ◌∙◌, subst, append_assoc, append-nil, arith, get_or}
 use Rattle.std.proofs.Math.Dec.{eqb-suc-zero, eqb-zero-suc, eqb-suc-suc}
@@ -14,10 +14,10 @@ use Rattle.zir_code.specs.declared.scope.Holder.{Holder}
 use Rattle.zir_code.specs.declared.scope.Signature.{Signature}
 use Rattle.zir_code.specs.Scopes.{Scope}
 use Rattle.zir_code.specs.Needs.{all_needs, result_needs}
-use Rattle.zir_code.specs.Bodies.{free_after_all, parameters, inside, body_code}
+use Rattle.zir_code.specs.Bodies.{free_after_all, parameters, inside}
 use Rattle.zir_code.specs.Program.{at_top, one_more_signature, more_signatures}
 use Rattle.zir_compile.specs.Names.{signature_at}
-use Rattle.zir_compile.specs.Signing.{has_one_cell, body_coded, Bodied, BodiedIf, cells_of, is_signed, with_code, signature_if, signature_of, signatures_after, no_signature, signatures_of}
+use Rattle.zir_compile.specs.Signing.{has_one_cell, body_coded, Bodied, BodiedIf, cells_of, with_code, signature_if, signature_of, signatures_after, no_signature, signatures_of}
 use Rattle.zir_compile.proofs.Equations.{lt_true, lt_false}
 use Rattle.zir_compile.proofs.Finding.{at_place}
 use Rattle.zir_compile.proofs.Same.{needs_same}

@@ -1,5 +1,5 @@
 -- What the definitions of code say of the statements that the code of this crate sees.
-use Rattle.std.specs.Prelude.{ℕ, ◌+◌, ◌<◌, ◌≤◌, ◌^◌, max, List, [], ◌∷◌, ◌++◌, Bool, true, false, ◌&&◌, ◌≡◌, Option, Some, None, is_some, Result, Ok, Err, IfOk, refl}
+use Rattle.std.specs.Prelude.{ℕ, ◌+◌, ◌<◌, ◌^◌, max, List, [], ◌∷◌, ◌++◌, Bool, true, false, ◌&&◌, ◌≡◌, Option, Some, None, is_some, Result, Ok, Err, IfOk, refl}
 use Rattle.std.specs.List.{list_all}
 use Rattle.std.proofs.Common.{ap, sym, ◌∙◌, subst, inl, inr, append_assoc, arith}
 use denote.Hole.Carrier.{hidden}
@@ -7,7 +7,6 @@ use Rattle.zir_tree.specs.declared.ident.Ident.{Ident}
 use Rattle.zir_tree.specs.declared.place.Place.{Place}
 use Rattle.zir_tree.specs.declared.types.Base.TheVariants.{Int32}
 use Rattle.zir_tree.specs.declared.expr.Expr.{Expr}
-use Rattle.zir_tree.specs.declared.stmt.Access.{Access}
 use Rattle.zir_tree.specs.declared.stmt.Var.{Var}
 use Rattle.zir_tree.specs.declared.stmt.Stmt.{Stmt, Var as VarStmt, Assign, Call, If, IfElse, While, For}
 use Rattle.zir_tree.specs.declared.stmt.Stmt.TheBlock.{shape-the_row-Stmt-0, hidden-the_row-Stmt-0}
@@ -17,10 +16,10 @@ use Rattle.zir_expr.specs.declared.frame.Spot.TheVariants.{Local}
 use Rattle.zir_expr.specs.declared.steps.Step.{Step, Copy, Branch, While as WhileStep, Count}
 use Rattle.zir_code.specs.Scopes.{Scope, variable}
 use Rattle.zir_code.specs.Coding.{stands, code_of, room_of, call_code, code_of_all}
-use Rattle.zir_code.specs.Forms.{is_one_cell, is_coded, reads_one, starts_coded, does_code, row_codes, all_code_forms}
+use Rattle.zir_code.specs.Forms.{is_one_cell, is_coded, does_code, row_codes, all_code_forms}
 use Rattle.zir_code.specs.Needs.{needs_cells, row_needs, all_needs}
-use Rattle.zir_code.specs.Statements.{with_local, stmt_code, row_code, scope_after, free_after, to_variable}
-use Rattle.zir_code.specs.Bodies.{all_code, scope_after_all, free_after_all}
+use Rattle.zir_code.specs.Statements.{with_local, stmt_code, row_code, scope_after, free_after}
+use Rattle.zir_code.specs.Bodies.{all_code}
 use Rattle.zir_compile.specs.Lists.{Coded, GrownAll}
 use Rattle.zir_compile.specs.Growing.{Valued, Started, Targets, Ranged, Chosen, Turned, Counted, Stated, Blocked, BlockedIf}
 use Rattle.zir_compile.proofs.Equations.{one_step, and_first, and_second}

@@ -1,5 +1,5 @@
 -- Well typed functions have the signatures that are made for them.
-use Rattle.std.specs.Prelude.{ℕ, suc, ◌≤◌, List, [], ◌∷◌, Bool, true, false, Option, Some, None, ◌≡◌, length, refl}
+use Rattle.std.specs.Prelude.{ℕ, suc, List, [], ◌∷◌, Bool, true, false, Option, ◌≡◌, length, refl}
 use Rattle.std.specs.List.{list_all}
 use Rattle.std.proofs.Common.{ap, inl, inr, arith}
 use Rattle.zir_tree.specs.declared.types.Base.{Base}

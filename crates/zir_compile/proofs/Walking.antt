@@ -1,16 +1,12 @@
 -- Loops along arguments and statements.
-use Rattle.std.specs.Prelude.{◌≡◌, ℕ, ◌+◌, ◌<◌, ◌≤◌, ◌^◌, max, min, List, [], ◌∷◌, ◌++◌, length, drop, Bool, true, false, ◌&&◌, refl}
-use Rattle.std.specs.List.{list_all}
-use Rattle.std.proofs.Common.{ap, ◌∙◌, sym, subst, get_or, arith}
-use Rattle.std.proofs.lemmas.List.{drop_all, at_drop_all}
+use Rattle.std.specs.Prelude.{◌≡◌, ℕ, ◌+◌, ◌<◌, ◌≤◌, ◌^◌, List, [], ◌∷◌, ◌++◌, length, drop}
+use Rattle.std.proofs.Common.{sym, subst, get_or}
+use Rattle.std.proofs.lemmas.List.{drop_all}
 use Rattle.zir_tree.specs.declared.expr.Expr.{Expr}
 use Rattle.zir_expr.specs.declared.frame.Spot.{Spot}
 use Rattle.zir_expr.specs.declared.frame.Spot.TheVariants.{Local}
 use Rattle.zir_expr.specs.declared.steps.Step.{Step, Copy}
-use Rattle.zir_cells.specs.Layout.{capped}
 use Rattle.zir_code.specs.Scopes.{Scope}
-use Rattle.zir_code.specs.Coding.{room_of, room_in_all}
-use Rattle.zir_code.specs.Forms.{is_coded}
 use Rattle.zir_compile.specs.Lists.{Coded, GrownAll}
 use Rattle.zir_compile.proofs.Equations.{no_argument, one_argument}
 use Rattle.zir_compile.proofs.Finding.{at_place}

@@ -1,15 +1,13 @@
 -- The code and the cells of arguments as lists, and what it is for code to grow.
-use Rattle.std.specs.Prelude.{ℕ, ◌+◌, ◌<◌, ◌^◌, max, List, [], ◌∷◌, ◌++◌, Bool, true, false, Option, Some, None, ◌&&◌, ◌≡◌}
+use Rattle.std.specs.Prelude.{ℕ, ◌+◌, ◌<◌, ◌^◌, List, [], ◌∷◌, ◌++◌, Bool, true, false, Option, Some, None, ◌≡◌}
 use Rattle.std.specs.List.{list_all}
-use Rattle.zir_tree.specs.declared.place.Place.{Place}
 use Rattle.zir_tree.specs.declared.expr.Expr.{Expr}
 use Rattle.zir_tree.specs.declared.expr.Operator.{Operator}
 use Rattle.zir_tree.specs.declared.expr.Operator.TheVariants.{Or, And}
 use Rattle.zir_expr.specs.declared.frame.Spot.{Spot}
 use Rattle.zir_expr.specs.declared.frame.Spot.TheVariants.{Local}
 use Rattle.zir_expr.specs.declared.steps.Fork.{Fork}
-use Rattle.zir_expr.specs.declared.scalar.Operation.{Operation}
-use Rattle.zir_expr.specs.declared.steps.Step.{Step, Copy, Operate, Branch}
+use Rattle.zir_expr.specs.declared.steps.Step.{Step, Copy, Branch}
 use Rattle.zir_code.specs.Scopes.{Scope}
 use Rattle.zir_code.specs.Coding.{stands, code_of, room_of, room_in_all, code_of_all}
 use Rattle.zir_code.specs.Forms.{is_coded}

@@ -1,5 +1,5 @@
 -- What names mean to the definitions of code.
-use Rattle.std.specs.Prelude.{ℕ, List, [], ◌∷◌, Option, Some, None, unwrap_or, slice_get}
+use Rattle.std.specs.Prelude.{ℕ, List, Option, None, unwrap_or, slice_get}
 use Rattle.zir_code.specs.declared.scope.Signature.{Signature}
 use Rattle.zir_code.specs.Scopes.{Scope}
 use Rattle.zir_compile.specs.declared.scope.Names.{Names}

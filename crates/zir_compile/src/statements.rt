@@ -156,7 +156,7 @@ impl Names {
     }
 
     /// Where a variable of one cell stands.
-    fn target(&self, id: u32) -> Option<Spot>
+    pub fn target(&self, id: u32) -> Option<Spot>
         ensures { Targets (variable (scope_of self.now) id) result }
     {
         match self.variable(id) {

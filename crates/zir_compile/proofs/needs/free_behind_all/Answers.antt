@@ -1,4 +1,4 @@
-use Rattle.std.proofs.Common.{◌≡◌, arith}
+use Rattle.std.proofs.Common.{arith}
 use Rattle.zir_compile.proofs.Needing.{frees_on, frees_end}
 use Rattle.zir_compile.proofs.needs.free_behind_all.Goals as goal
 

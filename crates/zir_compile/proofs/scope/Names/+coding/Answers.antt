@@ -1,4 +1,4 @@
-use Rattle.std.proofs.Common.{◌≡◌, sym, arith}
+use Rattle.std.proofs.Common.{sym, arith}
 use Rattle.zir_compile.specs.Names.{scope_of}
 use Rattle.zir_compile.proofs.Equations.{both_ok, coded-Unary, coded-Convert, coded-Decided, coded-Operated, coded-Call}
 use Rattle.zir_compile.proofs.Walking.{arguments_on, arguments_end}

@@ -1,4 +1,4 @@
-use Rattle.std.proofs.Common.{◌≡◌, ◌+◌, arith}
+use Rattle.std.proofs.Common.{◌+◌, arith}
 use Rattle.zir_compile.specs.Names.{scope_of}
 use Rattle.zir_compile.proofs.Needing.{needs_behind, needs-If, needs-IfElse, needs-While, needs-For, needs_on, needs_end}
 use Rattle.zir_compile.proofs.scope.Names.+needs.Goals as goal

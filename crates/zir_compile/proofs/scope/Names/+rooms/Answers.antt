@@ -1,4 +1,4 @@
-use Rattle.std.proofs.Common.{◌≡◌, arith}
+use Rattle.std.proofs.Common.{arith}
 use Rattle.zir_compile.proofs.Equations.{room-Unary, room-Convert, room-Binary, room-Call}
 use Rattle.zir_compile.proofs.scope.Names.+rooms.Goals as goal
 

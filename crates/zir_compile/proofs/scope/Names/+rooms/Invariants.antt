@@ -1,4 +1,4 @@
-use Rattle.std.proofs.Common.{◌≡◌, ◌+◌, ◌<◌, ◌^◌, max, drop}
+use Rattle.std.proofs.Common.{◌≡◌, ◌+◌, max, drop}
 use Rattle.zir_cells.specs.Layout.{capped}
 use Rattle.zir_code.specs.Coding.{room_in_all}
 use Rattle.zir_compile.specs.Names.{scope_of}

@@ -1,4 +1,4 @@
-use Rattle.std.proofs.Common.{◌≡◌, Some, None, length, subst, arith}
+use Rattle.std.proofs.Common.{◌≡◌, length, subst, arith}
 use Rattle.zir_compile.specs.Names.{scope_of}
 use Rattle.zir_compile.specs.Growing.{Stated}
 use Rattle.zir_compile.proofs.Rows.{moved_twice, rows_stop, rows_on, rows_end}

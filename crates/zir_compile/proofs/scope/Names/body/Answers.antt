@@ -1,4 +1,3 @@
-use Rattle.std.proofs.Common.{◌≡◌, Some}
 use Rattle.zir_compile.specs.Names.{scope_of}
 use Rattle.zir_compile.proofs.Bodies.{bodies_made}
 use Rattle.zir_compile.proofs.scope.Names.body.Goals as goal

@@ -1,4 +1,4 @@
-use Rattle.std.proofs.Common.{◌≡◌, arith}
+use Rattle.std.proofs.Common.{arith}
 use Rattle.zir_compile.specs.Names.{scope_of}
 use Rattle.zir_compile.proofs.Stating.{counts_on}
 use Rattle.zir_compile.proofs.scope.Names.counted.Goals as goal

@@ -1,8 +1,6 @@
-use Rattle.std.proofs.Common.{◌≡◌, ◌+◌, [], ◌∷◌, ◌++◌, ◌∙◌, length, ap, sym, subst, arith, refl}
+use Rattle.std.proofs.Common.{◌+◌, [], ◌∷◌, ◌++◌, ◌∙◌, length, ap, refl}
 use Rattle.std.proofs.lemmas.List.{length_push}
-use Rattle.zir_code.specs.Program.{at_top}
-use Rattle.zir_compile.specs.Names.{signature_at}
-use Rattle.zir_compile.specs.Signing.{signature_of, signatures_of, signatures_after}
+use Rattle.zir_compile.specs.Signing.{signatures_of}
 use Rattle.zir_compile.proofs.Signed.{signatures_begin, signatures_on, signatures_end, scope_end}
 use Rattle.zir_compile.proofs.scope.Names.of_functions.Goals as goal
 

@@ -1,6 +1,5 @@
-use Rattle.std.proofs.Common.{◌≡◌, ◌<◌, ◌≤◌, ◌^◌, ◌∙◌, length, ap, arith, refl, true, Some, None}
+use Rattle.std.proofs.Common.{◌≡◌, ◌<◌, ◌^◌, ◌∙◌, length, ap, arith, refl, true}
 use Rattle.std.specs.List.{list_all}
-use Rattle.zir_cells.specs.Layout.{capped}
 use Rattle.zir_code.specs.Scopes.{Scope}
 use Rattle.zir_code.specs.Bodies.{parameters}
 use Rattle.zir_code.specs.Program.{at_top}
