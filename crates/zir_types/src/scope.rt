@@ -97,7 +97,7 @@ impl Scope {
     {
         match self.variable_numbers.find(id) {
             None => None,
-            Some(place) => match self.variables.get(place) {
+            Some(place) => match sqlite_items::at(self.variables.as_slice(), place) {
                 None => None,
                 Some(variable) => Some(&variable.ty),
             },
