@@ -1,6 +1,6 @@
 // The types of expressions.
 
-ghost use Rattle.std.specs.Prelude.{◌&&◌};
+ghost use Rattle.std.specs.Prelude.{◌≡◌, ◌&&◌, None, MatchOption};
 ghost use Rattle.zir_types.specs.Expressions.{Alike, InTurn, args_of, expr as walk, no_args};
 ghost use Rattle.zir_types.specs.Expressions.{unasked as nothing_asked, lent as lending, joined as join_walk, indexed as index_walk};
 ghost use Rattle.zir_types.specs.Expressions.{sliced as slice_walk, paired as pair_walk, selected as part_walk, converted as convert_walk};
@@ -8,7 +8,8 @@ ghost use Rattle.zir_types.specs.Expressions.{gathered as array_walk, call as ca
 ghost use Rattle.zir_types.specs.Expressions.{negates as negating, number_of as number_in, kept as keeping, signs as signing, is_literal as literal};
 ghost use Rattle.zir_types.specs.Kinds.{scalar as scalar_ty};
 ghost use Rattle.zir_types.specs.Scope.{called_in};
-ghost use Rattle.zir_types.specs.Walk.{Told, and_then};
+ghost use Rattle.zir_types.specs.Walk.{Walk, Told, and_then};
+ghost use Rattle.zir_types.specs.declared.typed.Typed.{Typed};
 ghost use Rattle.zir_types.specs.Wants.{asked_ty};
 
 use sqlite_items::Items;
@@ -88,6 +89,23 @@ pub fn type_expr(alloc: Global, scope: &Scope, want: Want<'_>, e: &Expr) -> Resu
     }
 }
 
+/// The literal of a `-` before an INT, where these are one.
+fn type_negative(
+    alloc: Global,
+    want: Want<'_>,
+    inner: &Expr,
+    op: Prefix,
+    at: Place,
+) -> Option<Result<Typed, TypeError>>
+    ensures { MatchOption result (negating op (number_in inner.now) ≡ None) (λ made. (w : Walk Typed) →
+        Told (prefix_walk (negating op (number_in inner.now)) op (asked_ty want.entry) at w) made) }
+{
+    match negates(op, inner) {
+        None => None,
+        Some(n) => Some(minus_int(alloc, literal_type(want), n, at)),
+    }
+}
+
 /// A prefix before an operand.
 #[cycle(walk)]
 fn type_unary(
@@ -101,8 +119,8 @@ fn type_unary(
     ensures { Told (prefix_walk (negating op (number_in inner.now)) op (asked_ty want.entry) at
         (walk scope.now (keeping (signing op && literal inner.now) (asked_ty want.entry)) inner.now)) result }
 {
-    match negates(op, inner) {
-        Some(n) => minus_int(alloc, literal_type(want), n, at),
+    match type_negative(alloc, want, inner, op, at) {
+        Some(made) => made,
         None => {
             let t = type_expr(alloc, scope, operand_asked(op, want, inner), inner)?;
             prefixed(alloc, op, at, t)

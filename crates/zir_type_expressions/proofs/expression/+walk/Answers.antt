@@ -2,7 +2,7 @@ use Rattle.std.proofs.Common.{◌∙◌, ◌&&◌, ap, sym, refl}
 use Rattle.zir_types.specs.Walk.{Fine}
 use Rattle.zir_types.specs.Wants.{asked_ty}
 use Rattle.zir_types.specs.Scope.{called_in}
-use Rattle.zir_types.specs.Expressions.{Alike, expr, args_of, no_args, call, unary, kept, signs, is_literal}
+use Rattle.zir_types.specs.Expressions.{Alike, expr, args_of, no_args, call, unary, kept, signs, is_literal, joined, indexed, sliced, paired, selected, converted, prefixed}
 use Rattle.zir_types.proofs.Told.{told_err}
 use Rattle.zir_types.proofs.Fine.{same_fine}
 use Rattle.zir_types.proofs.Equations.{expr-Unary, expr-Index, expr-Slice, expr-Part, expr-Convert, expr-Complex, expr-Array, expr-Call}
@@ -11,71 +11,73 @@ use Rattle.zir_type_expressions.proofs.expression.+walk.Goals as goal
 
 pub type_unary-returns-in-Some : goal.type_unary-returns-in-Some
 type_unary-returns-in-Some t c =
-    told_as _ _ _ (ap (λ q. unary q c.args.op (asked_ty c.args.want) c.args.at (expr c.args.scope.now (kept (signs c.args.op && is_literal c.args.inner.now) (asked_ty c.args.want)) c.args.inner.now)) (sym c.negates.ensures ∙ c.in-Some.is)) (rw c.literal_type.ensures at c.minus_int.ensures)
+    c.in-Some.ensures _
 
-pub type_unary-returns-in_err-t : goal.type_unary-returns-in_err-t
-type_unary-returns-in_err-t t c =
-    told_as _ _ _ (ap (λ q. unary q c.args.op (asked_ty c.args.want) c.args.at (expr c.args.scope.now (kept (signs c.args.op && is_literal c.args.inner.now) (asked_ty c.args.want)) c.args.inner.now)) (sym c.negates.ensures ∙ c.in-None.is)) (expr_err _ _ _ _ _ _ _ c.operand_asked.ensures c.from_residual.ensures.1 c.in_err-t.ensures)
+pub type_unary-returns-in_err-t-in-None : goal.type_unary-returns-in_err-t-in-None
+type_unary-returns-in_err-t-in-None t c =
+    told_as _ _ _ (ap (λ q. unary q c.args.op (asked_ty c.args.want) c.args.at (expr c.args.scope.now (kept (signs c.args.op && is_literal c.args.inner.now) (asked_ty c.args.want)) c.args.inner.now)) c.in-None.ensures)
+    (expr_err c.args.scope.now _ _ c.args.inner.now (prefixed c.args.op c.args.at) _ _ c.operand_asked.ensures c.from_residual.ensures.1 c.in_err-t-in-None.ensures)
 
-pub type_unary-returns-in_ok-t : goal.type_unary-returns-in_ok-t
-type_unary-returns-in_ok-t t c =
-    told_as _ _ _ (ap (λ q. unary q c.args.op (asked_ty c.args.want) c.args.at (expr c.args.scope.now (kept (signs c.args.op && is_literal c.args.inner.now) (asked_ty c.args.want)) c.args.inner.now)) (sym c.negates.ensures ∙ c.in-None.is)) (expr_ok _ _ _ _ _ _ _ c.operand_asked.ensures c.in_ok-t.ensures c.prefixed.ensures)
+pub type_unary-returns-in_ok-t-in-None : goal.type_unary-returns-in_ok-t-in-None
+type_unary-returns-in_ok-t-in-None t c =
+    told_as _ _ _ (ap (λ q. unary q c.args.op (asked_ty c.args.want) c.args.at (expr c.args.scope.now (kept (signs c.args.op && is_literal c.args.inner.now) (asked_ty c.args.want)) c.args.inner.now)) c.in-None.ensures)
+    (expr_ok c.args.scope.now _ _ c.args.inner.now (prefixed c.args.op c.args.at) _ _ c.operand_asked.ensures c.in_ok-t-in-None.ensures c.prefixed.ensures)
 
 pub type_left-returns-in_err-s : goal.type_left-returns-in_err-s
 type_left-returns-in_err-s t c =
-    expr_err _ _ _ _ _ _ _ c.lent.ensures c.from_residual.ensures.1 c.in_err-s.ensures
+    expr_err c.args.scope.now _ _ c.args.a.now (λ s. joined c.args.op c.args.at s c.args.t) _ _ c.lent.ensures c.from_residual.ensures.1 c.in_err-s.ensures
 
 pub type_left-returns : goal.type_left-returns
 type_left-returns t c =
-    expr_ok _ _ _ _ _ _ _ c.lent.ensures c.in_ok-s.ensures c.joined.ensures
+    expr_ok c.args.scope.now _ _ c.args.a.now (λ s. joined c.args.op c.args.at s c.args.t) _ _ c.lent.ensures c.in_ok-s.ensures c.joined.ensures
 
 pub type_index-returns-in_err-t : goal.type_index-returns-in_err-t
 type_index-returns-in_err-t t c =
-    expr_err _ _ _ _ _ _ _ c.unasked.ensures c.from_residual.ensures.1 c.in_err-t.ensures
+    expr_err c.args.scope.now _ _ c.args.i.now (indexed c.args.at c.args.s) _ _ c.unasked.ensures c.from_residual.ensures.1 c.in_err-t.ensures
 
 pub type_index-returns : goal.type_index-returns
 type_index-returns t c =
-    expr_ok _ _ _ _ _ _ _ c.unasked.ensures c.in_ok-t.ensures c.indexed.ensures
+    expr_ok c.args.scope.now _ _ c.args.i.now (indexed c.args.at c.args.s) _ _ c.unasked.ensures c.in_ok-t.ensures c.indexed.ensures
 
 pub type_slice-returns-in_err-t : goal.type_slice-returns-in_err-t
 type_slice-returns-in_err-t t c =
-    expr_err _ _ _ _ _ _ _ c.unasked.ensures c.from_residual.ensures.1 c.in_err-t.ensures
+    expr_err c.args.scope.now _ _ c.args.i.now (sliced c.args.count c.args.at c.args.s) _ _ c.unasked.ensures c.from_residual.ensures.1 c.in_err-t.ensures
 
 pub type_slice-returns : goal.type_slice-returns
 type_slice-returns t c =
-    expr_ok _ _ _ _ _ _ _ c.unasked.ensures c.in_ok-t.ensures c.sliced.ensures
+    expr_ok c.args.scope.now _ _ c.args.i.now (sliced c.args.count c.args.at c.args.s) _ _ c.unasked.ensures c.in_ok-t.ensures c.sliced.ensures
 
 pub type_imaginary-returns-in_err-t : goal.type_imaginary-returns-in_err-t
 type_imaginary-returns-in_err-t t c =
-    expr_err _ _ _ _ _ _ _ c.unasked.ensures c.from_residual.ensures.1 c.in_err-t.ensures
+    expr_err c.args.scope.now _ _ c.args.y.now (paired c.args.to c.args.at c.args.s) _ _ c.unasked.ensures c.from_residual.ensures.1 c.in_err-t.ensures
 
 pub type_imaginary-returns : goal.type_imaginary-returns
 type_imaginary-returns t c =
-    expr_ok _ _ _ _ _ _ _ c.unasked.ensures c.in_ok-t.ensures c.paired.ensures
+    expr_ok c.args.scope.now _ _ c.args.y.now (paired c.args.to c.args.at c.args.s) _ _ c.unasked.ensures c.in_ok-t.ensures c.paired.ensures
 
 pub type_right-returns-in_err-t : goal.type_right-returns-in_err-t
 type_right-returns-in_err-t t c =
-    expr_err _ _ _ _ _ _ _ refl c.from_residual.ensures.1 c.in_err-t.ensures
+    expr_err c.args.scope.now (asked_ty c.args.want) (asked_ty c.args.want) c.args.b.now (joined c.args.op c.args.at c.args.s) _ _ refl c.from_residual.ensures.1 c.in_err-t.ensures
 
 pub type_right-returns : goal.type_right-returns
 type_right-returns t c =
-    expr_ok _ _ _ _ _ _ _ refl c.in_ok-t.ensures c.joined.ensures
+    expr_ok c.args.scope.now (asked_ty c.args.want) (asked_ty c.args.want) c.args.b.now (joined c.args.op c.args.at c.args.s) _ _ refl c.in_ok-t.ensures c.joined.ensures
 
 pub type_part-returns-in_err-s : goal.type_part-returns-in_err-s
 type_part-returns-in_err-s t c =
-    expr_err _ _ _ _ _ _ _ c.unasked.ensures c.from_residual.ensures.1 c.in_err-s.ensures
+    expr_err c.args.scope.now _ _ c.args.a.now (selected c.args.scope.now c.args.name.now c.args.at) _ _ c.unasked.ensures c.from_residual.ensures.1 c.in_err-s.ensures
 
 pub type_part-returns : goal.type_part-returns
 type_part-returns t c =
-    expr_ok _ _ _ _ _ _ _ c.unasked.ensures c.in_ok-s.ensures c.selected.ensures
+    expr_ok c.args.scope.now _ _ c.args.a.now (selected c.args.scope.now c.args.name.now c.args.at) _ _ c.unasked.ensures c.in_ok-s.ensures c.selected.ensures
 
 pub type_convert-returns-in_err-t : goal.type_convert-returns-in_err-t
 type_convert-returns-in_err-t t c =
-    expr_err _ _ _ _ _ _ _ c.wanted_base.ensures c.from_residual.ensures.1 c.in_err-t.ensures
+    expr_err c.args.scope.now _ _ c.args.inner.now (converted c.args.to c.args.at) _ _ c.wanted_base.ensures c.from_residual.ensures.1 c.in_err-t.ensures
 
 pub type_convert-returns : goal.type_convert-returns
 type_convert-returns t c =
-    expr_ok _ _ _ _ _ _ _ c.wanted_base.ensures c.in_ok-t.ensures c.converted.ensures
+    expr_ok c.args.scope.now _ _ c.args.inner.now (converted c.args.to c.args.at) _ _ c.wanted_base.ensures c.in_ok-t.ensures c.converted.ensures
 
 pub type_array-returns-in_err-ts : goal.type_array-returns-in_err-ts
 type_array-returns-in_err-ts t c =
@@ -93,25 +95,25 @@ pub type_application-returns-in-None : goal.type_application-returns-in-None
 type_application-returns-in-None t c =
     ap (λ q. call q c.args.f.now (λ asks. args_of c.args.scope.now asks no_args c.args.es.now)) (same_fine _ _ c.in_ok-called.ensures ∙ c.in-None.is)
 
-pub type_application-returns-in_err-ts : goal.type_application-returns-in_err-ts
-type_application-returns-in_err-ts t c =
-    told_as _ _ _ (ap (λ q. call q c.args.f.now (λ asks. args_of c.args.scope.now asks no_args c.args.es.now)) (same_fine _ _ c.in_ok-called.ensures ∙ c.in-Some.is)) (told_err _ _ _ _ c.from_residual-in_err-ts.ensures.1 (rw c.as_slice.ensures at c.in_err-ts.ensures))
+pub type_application-returns-in_err-ts-in-Some : goal.type_application-returns-in_err-ts-in-Some
+type_application-returns-in_err-ts-in-Some t c =
+    told_as _ _ _ (ap (λ q. call q c.args.f.now (λ asks. args_of c.args.scope.now asks no_args c.args.es.now)) (same_fine _ _ c.in_ok-called.ensures ∙ c.in-Some.is)) (told_err _ _ _ _ c.from_residual-in_err-ts-in-Some.ensures.1 (rw c.as_slice.ensures at c.in_err-ts-in-Some.ensures))
 
-pub type_application-returns-in_ok-ts : goal.type_application-returns-in_ok-ts
-type_application-returns-in_ok-ts t c =
-    told_as _ _ _ (ap (λ q. call q c.args.f.now (λ asks. args_of c.args.scope.now asks no_args c.args.es.now)) (same_fine _ _ c.in_ok-called.ensures ∙ c.in-Some.is)) (told_ok _ _ _ _ (rw c.as_slice.ensures at c.in_ok-ts.ensures) c.called-in-Some.ensures)
+pub type_application-returns-in_ok-ts-in-Some : goal.type_application-returns-in_ok-ts-in-Some
+type_application-returns-in_ok-ts-in-Some t c =
+    told_as _ _ _ (ap (λ q. call q c.args.f.now (λ asks. args_of c.args.scope.now asks no_args c.args.es.now)) (same_fine _ _ c.in_ok-called.ensures ∙ c.in-Some.is)) (told_ok _ _ _ _ (rw c.as_slice.ensures at c.in_ok-ts-in-Some.ensures) c.called-in-Some.ensures)
 
 pub type_expr-returns-in-Unary : goal.type_expr-returns-in-Unary
 type_expr-returns-in-Unary t c =
     rw c.in-Unary.is (told_as _ _ _ (expr-Unary c.args.scope.now (asked_ty c.args.want) c.in-Unary.op c.in-Unary.field-1 c.in-Unary.inner c.in-Unary.at) (rw c.get.ensures at c.type_unary.ensures))
 
-pub type_expr-returns-in_err-t : goal.type_expr-returns-in_err-t
-type_expr-returns-in_err-t t c =
-    rw c.in-Binary.is (one_err _ _ _ _ _ _ _ _ _ (right_walk _ (asked_ty c.args.want) c.in-Binary.op c.in-Binary.field-1 c.in-Binary.a c.in-Binary.b _ _ c.in-Binary.at _ _ _ c.get-in-Binary.ensures c.get-in-Binary-2.ensures c.is_literal-left.ensures c.is_literal-right.ensures c.right_first.ensures c.if-right_first.true) c.unasked.ensures c.get-then-right_first.ensures c.from_residual.ensures.1 c.in_err-t.ensures)
+pub type_expr-returns-in_err-t-in-Binary : goal.type_expr-returns-in_err-t-in-Binary
+type_expr-returns-in_err-t-in-Binary t c =
+    rw c.in-Binary.is (one_err _ _ _ _ _ _ _ _ _ (right_walk _ (asked_ty c.args.want) c.in-Binary.op c.in-Binary.field-1 c.in-Binary.a c.in-Binary.b _ _ c.in-Binary.at _ _ _ c.get-in-Binary.ensures c.get-in-Binary-2.ensures c.is_literal-left.ensures c.is_literal-right.ensures c.right_first.ensures c.if-right_first.true) c.unasked.ensures c.get-then-right_first.ensures c.from_residual.ensures.1 c.in_err-t-in-Binary.ensures)
 
 pub type_expr-returns-then-right_first : goal.type_expr-returns-then-right_first
 type_expr-returns-then-right_first t c =
-    rw c.in-Binary.is (one_ok _ _ _ _ _ _ _ _ _ (right_walk _ (asked_ty c.args.want) c.in-Binary.op c.in-Binary.field-1 c.in-Binary.a c.in-Binary.b _ _ c.in-Binary.at _ _ _ c.get-in-Binary.ensures c.get-in-Binary-2.ensures c.is_literal-left.ensures c.is_literal-right.ensures c.right_first.ensures c.if-right_first.true) c.unasked.ensures c.get-then-right_first.ensures c.in_ok-t.ensures (rw c.get-then-right_first-2.ensures at c.type_left.ensures))
+    rw c.in-Binary.is (one_ok _ _ _ _ _ _ _ _ _ (right_walk _ (asked_ty c.args.want) c.in-Binary.op c.in-Binary.field-1 c.in-Binary.a c.in-Binary.b _ _ c.in-Binary.at _ _ _ c.get-in-Binary.ensures c.get-in-Binary-2.ensures c.is_literal-left.ensures c.is_literal-right.ensures c.right_first.ensures c.if-right_first.true) c.unasked.ensures c.get-then-right_first.ensures c.in_ok-t-in-Binary.ensures (rw c.get-then-right_first-2.ensures at c.type_left.ensures))
 
 pub type_expr-returns-in_err-s-in-Binary : goal.type_expr-returns-in_err-s-in-Binary
 type_expr-returns-in_err-s-in-Binary t c =
