@@ -23,3 +23,7 @@ declare-more g vs ws = ap (seeing g) (append_assoc g.variables vs ws)
 -- What was declared behind a scope is left again.
 pub left-declare : (g : Visible) (vs : List Seen) → left (length g.variables) (declare vs g) ≡ g
 left-declare g vs = ap (seeing g) (take-append_seam g.variables vs)
+
+-- A scope that others stood behind is as before.
+pub left_again : (g g1 g2 g3 : Visible) (vs : List Seen) (n : ℕ) → n ≡ length g.variables → g1 ≡ declare vs g → g2 ≡ g1 → g3 ≡ left n g2 → g3 ≡ g
+left_again g g1 g2 g3 vs n hn h1 h2 h3 = h3 ∙ ap (λ k. left k g2) hn ∙ ap (left (length g.variables)) (h2 ∙ h1) ∙ left-declare g vs

@@ -9,12 +9,12 @@ returns-in_err-function c = told_memory _ _ _ c.from_residual.ensures.1 c.in_err
 pub returns-in-None : goal.returns-in-None
 returns-in-None c = stmt-Call-none c.args.scope.now c.args.f.now c.args.n c.args.es.now _ c.in_ok-function.ensures c.in-None.is
 
-pub returns-in_err-args : goal.returns-in_err-args
-returns-in_err-args c =
+pub returns-in_err-args-in-Some : goal.returns-in_err-args-in-Some
+returns-in_err-args-in-Some c =
     told_as _ _ _ (stmt-Call c.args.scope.now c.args.f.now c.args.n c.args.es.now _ c.in-Some.callee c.in_ok-function.ensures c.in-Some.is)
-    (told_err _ _ _ _ c.from_residual-in_err-args.ensures.1 (rw c.as_slice.ensures at c.in_err-args.ensures))
+    (told_err _ _ _ _ c.from_residual-in_err-args-in-Some.ensures.1 (rw c.as_slice.ensures at c.in_err-args-in-Some.ensures))
 
-pub returns-in_ok-args : goal.returns-in_ok-args
-returns-in_ok-args c =
+pub returns-in_ok-args-in-Some : goal.returns-in_ok-args-in-Some
+returns-in_ok-args-in-Some c =
     told_as _ _ _ (stmt-Call c.args.scope.now c.args.f.now c.args.n c.args.es.now _ c.in-Some.callee c.in_ok-function.ensures c.in-Some.is)
-    (told_ok _ _ _ _ (rw c.as_slice.ensures at c.in_ok-args.ensures) c.call_step.ensures)
+    (told_ok _ _ _ _ (rw c.as_slice.ensures at c.in_ok-args-in-Some.ensures) c.call_step.ensures)

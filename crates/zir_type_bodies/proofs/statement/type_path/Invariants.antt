@@ -4,4 +4,4 @@ use Rattle.zir_type_bodies.proofs.statement.type_path.Given as goal
 
 -- the walk of all is the walk of the rest from here
 abbrev pub invariant-loop-access : goal.invariant-loop-access
-invariant-loop-access l = path l.scope l.start l.steps ≡ path l.scope l.path (drop l.access-index l.steps)
+invariant-loop-access l = path l.scope l.initial.path l.steps ≡ path l.scope l.path (drop l.access-index l.steps)
