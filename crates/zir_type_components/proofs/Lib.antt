@@ -1,5 +1,6 @@
 pub mod Callees
 pub mod Equations
+pub mod Forms
 pub mod Found
 pub mod Members
 pub mod Parts
