@@ -5,3 +5,4 @@ pub mod Sound
 pub mod Places
 pub mod Told
 pub mod Equations
+pub mod Numbered

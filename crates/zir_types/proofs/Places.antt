@@ -3,40 +3,12 @@ use Rattle.std.specs.Prelude.{◌≡◌, ℕ, suc, ◌+◌, ◌<◌, List, ◌�
 use Rattle.std.specs.Str.{bytes_eq}
 use Rattle.std.proofs.Common.{ap, ◌∙◌, sym, add-one, drop-cons}
 use Rattle.zir_tree.specs.declared.types.FieldDef.{FieldDef}
-use Rattle.zir_types.specs.declared.scope.Shape.{Shape}
-use Rattle.zir_types.specs.declared.scope.Signature.{Signature}
 use Rattle.zir_types.specs.declared.typed.Selected.{Selected}
-use Rattle.zir_types.specs.Scope.{Placed, function_from, shape_from, field_from}
+use Rattle.zir_types.specs.Scope.{field_from}
 
 -- What stands behind a place begins with what stands there.
 pub at_place : {A : Type 0} (xs : List A) (n : ℕ) (x : A) → n < length xs → x ≡ get_or xs n x → drop n xs ≡ x ∷ drop (n + 1) xs
 at_place xs n x h e = drop-cons xs n x h ∙ rw (add-one) (ap (λ y. y ∷ drop (suc n) xs) (sym e))
-
-pub function_here : (fs : List Signature) (n id : ℕ) (s : Signature) → n < length fs → s ≡ get_or fs n s → nat_eq s.id id ≡ true →
-    function_from n (drop n fs) id ≡ Some (record { place = n; item = s })
-function_here fs n id s h e b = ap (λ l. function_from n l id) (at_place fs n s h e)
-    ∙ ap (λ t. if t then Some (let p : Placed Signature = record { place = n; item = s } in p) else function_from (suc n) (drop (n + 1) fs) id) b
-
-pub function_past : (fs : List Signature) (n id : ℕ) (s : Signature) → n < length fs → s ≡ get_or fs n s → nat_eq s.id id ≡ false →
-    function_from n (drop n fs) id ≡ function_from (n + 1) (drop (n + 1) fs) id
-function_past fs n id s h e b =
-    ap (λ l. function_from n l id) (at_place fs n s h e)
-    ∙ ap (λ t. if t then Some (let p : Placed Signature = record { place = n; item = s } in p) else function_from (suc n) (drop (n + 1) fs) id) b
-    ∙ ap (λ m. function_from m (drop (n + 1) fs) id) (sym (add-one n))
-
-pub shape_here : (fs : List Shape) (n id : ℕ) (s : Shape) → n < length fs → s ≡ get_or fs n s → nat_eq s.id id ≡ true → shape_from n (drop n fs) id
-    ≡ Some (record { place = n; item = s })
-shape_here fs n id s h e b = ap (λ l. shape_from n l id) (at_place fs n s h e) ∙ ap (λ t. if t then Some (let p : Placed Shape = record {
-  place = n;
-  item = s;
-} in p) else shape_from (suc n) (drop (n + 1) fs) id) b
-
-pub shape_past : (fs : List Shape) (n id : ℕ) (s : Shape) → n < length fs → s ≡ get_or fs n s → nat_eq s.id id ≡ false →
-    shape_from n (drop n fs) id ≡ shape_from (n + 1) (drop (n + 1) fs) id
-shape_past fs n id s h e b =
-    ap (λ l. shape_from n l id) (at_place fs n s h e)
-    ∙ ap (λ t. if t then Some (let p : Placed Shape = record { place = n; item = s } in p) else shape_from (suc n) (drop (n + 1) fs) id) b
-    ∙ ap (λ m. shape_from m (drop (n + 1) fs) id) (sym (add-one n))
 
 pub field_here : (fs : List FieldDef) (n : ℕ) (name : List ℕ) (f : FieldDef) → n < length fs → f ≡ get_or fs n f → bytes_eq f.name name ≡ true →
     field_from n (drop n fs) name ≡ Some (record { place = n; ty = f.ty })

@@ -18,6 +18,7 @@ use Rattle.zir_types.specs.declared.scope.Signature.{Signature}
 use Rattle.zir_types.specs.declared.typed.Typed.{Typed}
 use Rattle.zir_types.specs.declared.typed.Args.{Args}
 use Rattle.zir_types.specs.declared.typed.TypedVar.{TypedVar}
+use Rattle.zir_types.specs.declared.typed.TypedBody.{TypedBody}
 use Rattle.zir_types.specs.declared.typed.Heading.{Heading}
 use Rattle.zir_types.specs.declared.typed.TypedComp.{TypedComp}
 use Rattle.zir_types.specs.declared.error.TypeError.TheVariants.{Mismatch, TwoComputers, NotUnit, NotComputer, NotStreamType, Instances}
@@ -25,7 +26,7 @@ use Rattle.zir_types.specs.Walk.{Walk, Fine, Broken, and_then, check}
 use Rattle.zir_types.specs.Kinds.{scalar, arr, same_ty}
 use Rattle.zir_types.specs.Scope.{Visible, Placed, declare, variable, function_from, has_cells}
 use Rattle.zir_types.specs.Expressions.{expr, unasked, InTurn, no_args, args_of, agree, all_same}
-use Rattle.zir_types.specs.Statements.{var, seen_var, is_condition, is_count, with_index, TypedBody, do_body}
+use Rattle.zir_types.specs.Statements.{var, seen_var, is_condition, is_count, with_index, do_body}
 
 -- A component with its types, and all instances that were typed up to its end.
 pub record Reached : Type 0 where

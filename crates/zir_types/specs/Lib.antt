@@ -18,3 +18,5 @@ pub mod Needs
 pub mod Limits
 pub mod LimitRows
 pub mod Wants
+pub mod Found
+pub mod Numbered

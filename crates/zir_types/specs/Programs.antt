@@ -19,13 +19,14 @@ use Rattle.zir_tree.specs.declared.program.Core.{Core}
 use Rattle.zir_types.specs.declared.scope.Shape.{Shape}
 use Rattle.zir_types.specs.declared.typed.Written.{Written}
 use Rattle.zir_types.specs.declared.typed.TypedVar.{TypedVar}
+use Rattle.zir_types.specs.declared.typed.TypedBody.{TypedBody}
 use Rattle.zir_types.specs.declared.typed.Heading.{Heading}
 use Rattle.zir_types.specs.declared.error.TypeError.TheVariants.{Mismatch, NotStreamType}
 use Rattle.zir_types.specs.Walk.{Walk, Fine, and_then, check}
 use Rattle.zir_types.specs.Kinds.{scalar, is_bool, is_struct}
 use Rattle.zir_types.specs.Scope.{Visible, nothing, declare, written, all_cells}
 use Rattle.zir_types.specs.Expressions.{all_same}
-use Rattle.zir_types.specs.Statements.{var, seen_var, TypedBody, fun_body, no_heading, heading}
+use Rattle.zir_types.specs.Statements.{var, seen_var, fun_body, no_heading, heading}
 use Rattle.zir_types.specs.Components.{Reached, Maker, Makers, comp, emitted}
 
 -- A `fun comp` with its parameters, whose body is typed where it is called.

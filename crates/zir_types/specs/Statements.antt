@@ -24,6 +24,7 @@ use Rattle.zir_types.specs.declared.typed.Written.{Written}
 use Rattle.zir_types.specs.declared.typed.TypedVar.{TypedVar}
 use Rattle.zir_types.specs.declared.typed.Path.{Path}
 use Rattle.zir_types.specs.declared.typed.Step.{Step}
+use Rattle.zir_types.specs.declared.typed.TypedBody.{TypedBody}
 use Rattle.zir_types.specs.declared.typed.Heading.{Heading}
 use Rattle.zir_types.specs.declared.error.TypeError.TheVariants.{Mismatch}
 use Rattle.zir_types.specs.Walk.{Walk, Fine, Broken, and_then, check}
@@ -168,11 +169,6 @@ pub record Stmts : Type 0 where
 abbrev pub stmts_of : Visible → List Stmt → List Stmt → Walk Stmts
 stmts_of g done [] = Fine (record { done = done; scope = g })
 stmts_of g done (s ∷ ss) = and_then (stmt g s) (λ step. stmts_of (declare step.declares g) (done ++ step.what ∷ []) ss)
-
--- A body with the type of its value.
-pub record TypedBody : Type 0 where
-  pub what : Body
-  pub ty : Ty
 
 -- A body without `return` has the value unit.
 abbrev pub body_of : List Stmt → Option Return → Ty → TypedBody

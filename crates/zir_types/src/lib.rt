@@ -1,6 +1,7 @@
 //! Types: the walk that gives every part of a program its type, or the first refusal.
 #![tactic(auto)]
 
+pub mod cells;
 pub mod error;
 pub mod kinds;
 pub mod laws;

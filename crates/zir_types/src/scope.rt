@@ -1,12 +1,14 @@
 // What is in scope, and what a name means there.
 
-ghost use Rattle.std.specs.Prelude.{◌≡◌, ◌++◌, ◌∷◌, [], List, ℕ, Some, None, take, length, slice_get, IfOk, OnOk, MatchOption};
+ghost use Rattle.std.specs.Prelude.{◌≡◌, ◌≤◌, ◌++◌, ◌∷◌, [], List, ℕ, Some, None, take, drop, length, slice_get, option_map, IfOk, OnOk, MatchOption, MatchResult};
 ghost use Rattle.std.specs.Option.{option_copied};
 ghost use Rattle.std.specs.Str.{bytes_eq};
 ghost use Rattle.zir_tree.specs.declared.types.Ty.{Ty};
 ghost use Rattle.zir_types.specs.Walk.{Told, Fine};
 ghost use Rattle.zir_types.specs.Scope.{Visible, Placed, nothing, declare as declaring, type_in, function_from, shape_from};
 ghost use Rattle.zir_types.specs.Scope.{function_called as calling, struct_called as making, called_in, field_types as types_of, field_from};
+ghost use Rattle.zir_types.specs.Found.{placed_function};
+ghost use Rattle.zir_types.specs.Numbered.{IsFunctionAt, IsShapeAt};
 ghost use Rattle.zir_types.specs.Scope.{half_part as half_named, part_in, lengths_of, plain as plain_base, base_in, written_if, written as writing};
 
 use crate::error::TypeError;
@@ -15,6 +17,7 @@ use crate::typed::{Called, Selected, Written};
 use sqlite_items::Items;
 use std::alloc::{AllocError, Global};
 use std::marker::Model;
+use zir_lookup::Numbers;
 use zir_tree::expr::Callee;
 use zir_tree::ident::Ident;
 use zir_tree::name::Name;
@@ -43,20 +46,34 @@ pub struct Signature {
     pub result: Ty,
 }
 
-/// What a part of a program sees, each in the order of the text.
+/// A function with its place among the functions in scope.
+#[derive(Clone, Copy)]
+pub struct FoundFunction<'a> {
+    pub place: u32,
+    pub signature: &'a Signature,
+}
+
+/// What a part of a program sees, each in the order of the text, with the numbers of all of each kind.
 #[derive(Debug, Drop)]
 pub struct Scope {
     shapes: Vec<Shape>,
     functions: Vec<Signature>,
     variables: Vec<Seen>,
+    shape_numbers: Numbers,
+    function_numbers: Numbers,
+    variable_numbers: Numbers,
 }
 
 impl Model for Scope {
     ghost use Rattle.zir_types.specs.Scope.{Visible};
+    ghost use Rattle.zir_types.specs.Numbered.{AreNumbered};
 
     ghost Value = { Visible };
 
     ghost view = { λ scope. record { shapes = scope.shapes.items; functions = scope.functions.items; variables = scope.variables.items } };
+
+    ghost invariant = { λ scope. AreNumbered scope.shapes.items scope.functions.items scope.variables.items
+        scope.shape_numbers scope.function_numbers scope.variable_numbers };
 }
 
 impl Scope {
@@ -68,6 +85,9 @@ impl Scope {
             shapes: Vec::new(alloc),
             functions: Vec::new(alloc),
             variables: Vec::new(alloc),
+            shape_numbers: Numbers::new(alloc),
+            function_numbers: Numbers::new(alloc),
+            variable_numbers: Numbers::new(alloc),
         }
     }
 
@@ -75,18 +95,52 @@ impl Scope {
     pub fn variable(&self, id: u32) -> Option<&Ty>
         ensures { option_copied result ≡ type_in self.now.variables id }
     {
-        find_variable(self.variables.as_slice(), id)
+        match self.variable_numbers.find(id) {
+            None => None,
+            Some(place) => match sqlite_items::at(self.variables.as_slice(), place) {
+                None => None,
+                Some(variable) => Some(&variable.ty),
+            },
+        }
+    }
+
+    /// The place of the function of this number.
+    fn function_place(&self, id: u32) -> Option<usize>
+        ensures { MatchOption result (function_from 0 self.now.functions id ≡ None) (IsFunctionAt self.now.functions id) }
+    {
+        self.function_numbers.find(id)
+    }
+
+    /// The place of the struct of this number.
+    fn shape_place(&self, id: u32) -> Option<usize>
+        ensures { MatchOption result (shape_from 0 self.now.shapes id ≡ None) (IsShapeAt self.now.shapes id) }
+    {
+        self.shape_numbers.find(id)
+    }
+
+    /// A function, by its number.
+    pub fn function(&self, id: u32) -> Result<Option<FoundFunction<'_>>, TypeError>
+        ensures { MatchResult result (λ found. option_map placed_function found ≡ function_from 0 self.now.functions id) (λ e. e ≡ TypeError.Memory) }
+    {
+        match self.function_place(id) {
+            None => Ok(None),
+            Some(place) => {
+                let signature = &self.functions[place];
+                let place = number(place)?;
+                Ok(Some(FoundFunction { place, signature }))
+            }
+        }
     }
 
     /// What a call in an expression calls, by its number.
     pub fn called(&self, alloc: Global, id: u32) -> Result<Option<Called>, TypeError>
         ensures { Told (Fine (called_in self.now id)) result }
     {
-        if let Some(place) = find_function(self.functions.as_slice(), id) {
+        if let Some(place) = self.function_place(id) {
             let called = function_called(alloc, place, &self.functions[place])?;
             return Ok(Some(called));
         }
-        match find_shape(self.shapes.as_slice(), id) {
+        match self.shape_place(id) {
             None => Ok(None),
             Some(place) => {
                 let called = struct_called(alloc, place, &self.shapes[place])?;
@@ -130,7 +184,7 @@ impl Scope {
     {
         match name {
             None => Ok(plain(base)),
-            Some(name) => match find_shape(self.shapes.as_slice(), name.id) {
+            Some(name) => match self.shape_place(name.id) {
                 None => Ok(None),
                 Some(place) => {
                     let place = number(place)?;
@@ -144,8 +198,16 @@ impl Scope {
     pub fn declare(&mut self, variable: Seen) -> Result<(), AllocError>
         ensures { OnOk result (self.new ≡ declaring (variable ∷ []) self.old) }
     {
+        let before = self.variables.len();
+        let id = variable.id;
         self.variables.push(variable)?;
-        Ok(())
+        match self.variable_numbers.push(id) {
+            Ok(()) => Ok(()),
+            Err(error) => {
+                self.variables.truncate(before);
+                Err(error)
+            }
+        }
     }
 
     /// How many variables are in scope.
@@ -160,59 +222,78 @@ impl Scope {
         ensures { self.new ≡ record { shapes = self.old.shapes; functions = self.old.functions; variables = take depth self.old.variables } }
     {
         self.variables.truncate(depth);
+        self.variable_numbers.truncate(depth);
+    }
+
+    /// The structs in scope.
+    pub fn shapes(&self) -> &[Shape]
+        ensures { result.now ≡ self.now.shapes }
+    {
+        self.shapes.as_slice()
+    }
+
+    /// A struct comes into scope.
+    pub fn add_shape(&mut self, shape: Shape) -> Result<(), AllocError>
+        ensures { OnOk result (self.new ≡ record self.old { shapes = self.old.shapes ++ shape ∷ [] }) }
+    {
+        let before = self.shapes.len();
+        let id = shape.id;
+        self.shapes.push(shape)?;
+        match self.shape_numbers.push(id) {
+            Ok(()) => Ok(()),
+            Err(error) => {
+                self.shapes.truncate(before);
+                Err(error)
+            }
+        }
+    }
+
+    /// A function comes into scope.
+    pub fn add_function(&mut self, signature: Signature) -> Result<(), AllocError>
+        ensures { OnOk result (self.new ≡ record self.old { functions = self.old.functions ++ signature ∷ [] }) }
+    {
+        let before = self.functions.len();
+        let id = signature.id;
+        self.functions.push(signature)?;
+        match self.function_numbers.push(id) {
+            Ok(()) => Ok(()),
+            Err(error) => {
+                self.functions.truncate(before);
+                Err(error)
+            }
+        }
+    }
+
+    /// All but the first so many variables leave the scope, to come back later.
+    pub fn detach(&mut self, depth: usize) -> Result<Vec<Seen>, AllocError>
+        requires { depth ≤ length self.old.variables }
+        ensures taken { IfOk result (λ variables. variables.items ≡ drop depth self.old.variables) }
+        ensures left { OnOk result (self.new ≡ record self.old { variables = take depth self.old.variables }) }
+    {
+        let variables = self.variables.split_off(depth)?;
+        self.variable_numbers.truncate(depth);
+        Ok(variables)
+    }
+
+    /// Variables come into scope.
+    pub fn attach(&mut self, variables: Vec<Seen>) -> Result<(), AllocError>
+        ensures { OnOk result (self.new ≡ declaring variables.items self.old) }
+    {
+        for variable in variables {
+            self.declare(variable)?;
+        }
+        Ok(())
     }
 }
 
 /// A place among declarations, as the trees hold it.
-fn number(place: usize) -> Result<u32, TypeError>
+pub fn number(place: usize) -> Result<u32, TypeError>
     ensures { Told (Fine place) result }
 {
     match u32::try_from(place) {
         Err(_) => Err(TypeError::Memory),
         Ok(place) => Ok(place),
     }
-}
-
-/// The first variable of this number.
-fn find_variable(variables: &[Seen], id: u32) -> Option<&Ty>
-    ensures { option_copied result ≡ type_in variables.now id }
-{
-    match variables {
-        [] => None,
-        [v, more @ ..] => {
-            if v.id == id {
-                Some(&v.ty)
-            } else {
-                find_variable(more, id)
-            }
-        }
-    }
-}
-
-/// The place of the first function of this number.
-pub fn find_function(functions: &[Signature], id: u32) -> Option<usize>
-    ensures { MatchOption result (function_from 0 functions.now id ≡ None)
-        (λ n. (s : Signature) × (slice_get functions.now n ≡ Some s) × (function_from 0 functions.now id ≡ Some (record { place = n; item = s }))) }
-{
-    for place in 0..functions.len() {
-        if functions[place].id == id {
-            return Some(place);
-        }
-    }
-    None
-}
-
-/// The place of the first struct of this number.
-pub fn find_shape(shapes: &[Shape], id: u32) -> Option<usize>
-    ensures { MatchOption result (shape_from 0 shapes.now id ≡ None)
-        (λ n. (s : Shape) × (slice_get shapes.now n ≡ Some s) × (shape_from 0 shapes.now id ≡ Some (record { place = n; item = s }))) }
-{
-    for place in 0..shapes.len() {
-        if shapes[place].id == id {
-            return Some(place);
-        }
-    }
-    None
 }
 
 /// Copies of types.
@@ -333,7 +414,7 @@ pub fn copy_ident(alloc: Global, x: &Ident) -> Result<Ident, AllocError>
 }
 
 /// A copy of a name at its place, where there is one.
-fn copy_name(alloc: Global, name: &Option<Ident>) -> Result<Option<Ident>, AllocError>
+pub fn copy_name(alloc: Global, name: &Option<Ident>) -> Result<Option<Ident>, AllocError>
     ensures { IfOk result (λ copy. copy ≡ name.now) }
 {
     match name {

@@ -4,7 +4,7 @@ use crate::scope::Seen;
 use sqlite_items::Items;
 use zir_tree::comp::Comp;
 use zir_tree::expr::{Callee, Expr};
-use zir_tree::stmt::{Access, Stmt, Var};
+use zir_tree::stmt::{Access, Body, Stmt, Var};
 use zir_tree::types::{Field, Ty, TypeExpr};
 
 /// An expression with its type.
@@ -62,6 +62,13 @@ pub struct Path {
 pub struct Step {
     pub what: Stmt,
     pub declares: Items<Seen>,
+}
+
+/// A body with the type of its value.
+#[derive(Debug, Drop)]
+pub struct TypedBody {
+    pub what: Body,
+    pub ty: Ty,
 }
 
 /// Parameters: with the places of structs, their types, and what they bring into scope.

@@ -1,0 +1,4 @@
+pub mod Forms
+pub mod Scopes
+pub mod Sequences
+pub mod Steps

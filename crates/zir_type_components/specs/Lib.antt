@@ -1,0 +1,5 @@
+pub mod Answers
+pub mod Numbers
+pub mod Calls
+pub mod Blocks
+pub mod Sizes
