@@ -1,5 +1,6 @@
 pub mod ExpressionEquations
 pub mod Noted
 pub mod Order
+pub mod Placed
 pub mod Rows
 pub mod StatementEquations
