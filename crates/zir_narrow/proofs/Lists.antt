@@ -1,6 +1,7 @@
 -- Members of a list, as a loop makes them: what is made so far, and what the rest makes.
 use Rattle.std.specs.Prelude.{ℕ, ◌≡◌, ◌<◌, ◌≤◌, ◌+◌, List, [], ◌∷◌, ◌++◌, Bool, true, false, nat_eq, refl}
-use Rattle.std.proofs.Common.{zero, suc, ap, ◌∙◌, sym, subst, append_assoc, append_nil, drop, length, get_or, add-one, drop-cons, arith}
+use Rattle.std.proofs.Common.{suc, ap, ◌∙◌, sym, subst, append_assoc, append-nil, drop, length, get_or, add-one, drop-cons, length-drop, arith, eq-eqb}
+use Rattle.std.proofs.lemmas.Bool.{ne_eqb}
 use Rattle.std.proofs.lemmas.List.{drop_all}
 use denote.Hole.Carrier.{hidden}
 use Rattle.zir_tree.specs.declared.comp.Comp.TheBlock.{shape-the_row-Member-1, hidden-the_row-Member-1}
@@ -55,19 +56,19 @@ members-list any bound (m ∷ ms) = λ i. in_front (member any bound (is_end-lis
 at_member : (ms : List Member) (i : ℕ) (m : Member) → i < length ms → m ≡ get_or ms i m → drop i ms ≡ m ∷ drop (i + 1) ms
 at_member ms i m h e = rw add-one (drop-cons ms i m h ∙ ap (λ x. x ∷ drop (suc i) ms) (sym e))
 
--- the last member of a list is the one at its length less one
-is_last : (ms : List Member) (i : ℕ) → i < length ms → nat_eq (i + 1) (length ms) ≡ no_more (drop (i + 1) ms)
-is_last [] i h = absurd (omega arith)
-is_last (m ∷ []) zero h = refl
-is_last (m ∷ n ∷ ms) zero h = refl
-is_last (m ∷ ms) (suc i) h = is_last ms i (omega arith)
+-- what follows a member tells whether its place is the last
+last_before : (ms : List Member) (i : ℕ) (rest : List Member) → i < length ms → drop (i + 1) ms ≡ rest → nat_eq (i + 1) (length ms) ≡ no_more rest
+last_before ms i [] h e = eq-eqb (i + 1) (length ms) (omega (arith, length-drop (i + 1) ms, ap length e))
+last_before ms i (m ∷ rest) h e = ne_eqb (i + 1) (length ms) (λ same. omega (arith, same, length-drop (i + 1) ms, ap length e))
 
 -- in a block, at a member that is not reached yet: what is made so far, and what it and the rest make
 pub at_block : (any : Bool) (bound : List ℕ) (ms : List Member) (made : List bit_member.Member) (i : ℕ) (m : Member) (walk : Narrow (List bit_member.Member)) →
     i < length ms → m ≡ get_or ms i m → walk ≡ gathered made (each any bound (drop i ms)) →
     walk ≡ gathered made (in_front (member any bound (nat_eq (i + 1) (length ms)) m) (each any (behind bound m) (drop (i + 1) ms)))
 at_block any bound ms made i m walk h e w =
-    rw is_last ms i h (w ∙ ap (λ xs. gathered made (each any bound xs)) (at_member ms i m h e))
+    w
+    ∙ ap (λ xs. gathered made (each any bound xs)) (at_member ms i m h e)
+    ∙ ap (λ last. gathered made (in_front (member any bound last m) (each any (behind bound m) (drop (i + 1) ms)))) (sym (last_before ms i (drop (i + 1) ms) h refl))
 
 -- a member over bits, behind those that are made
 pub block_more : (any : Bool) (bound : List ℕ) (ms : List Member) (made : List bit_member.Member) (i : ℕ) (m : Member) (y : bit_member.Member) (walk : Narrow (List bit_member.Member)) →
@@ -89,4 +90,4 @@ block_stops any bound ms made i m error walk h e w f =
 -- behind the last member
 pub block_end : (any : Bool) (bound : List ℕ) (ms : List Member) (made : List bit_member.Member) (i : ℕ) (walk : Narrow (List bit_member.Member)) →
     length ms ≤ i → walk ≡ gathered made (each any bound (drop i ms)) → walk ≡ Fine made
-block_end any bound ms made i walk h w = w ∙ ap (λ xs. gathered made (each any bound xs)) (drop_all i ms h) ∙ ap Fine (append_nil made)
+block_end any bound ms made i walk h w = w ∙ ap (λ xs. gathered made (each any bound xs)) (drop_all i ms h) ∙ ap Fine (append-nil made)
