@@ -4,7 +4,7 @@ use Rattle.std.proofs.Common.{ap, ◌∙◌, sym, subst, inl, inr, arith}
 use denote.Hole.Carrier.{hidden}
 use Rattle.zir_tree.specs.declared.ident.Ident.{Ident}
 use Rattle.zir_tree.specs.declared.place.Place.{Place}
-use Rattle.zir_tree.specs.declared.expr.Expr.{Expr, Unit, Bit, Bool as Truth, Int, Variable, Unary', Binary', Index', Slice', Part', Call, Array, Convert', Complex', end_of-Expr, more_of-Expr}
+use Rattle.zir_tree.specs.declared.expr.Expr.{Expr, Unit, Bit, Bool as Truth, Int, Variable, Unary', Binary', Index', Slice', Part', Call', Array', Convert', Complex', end_of-Expr, more_of-Expr}
 use Rattle.zir_tree.specs.declared.comp.Comp.{Comp, Take, Emit, Return, Repeat', Block', Pipe', end_of-Comp, more_of-Comp, Row_of-Member, end_of-Member, more_of-Member}
 use Rattle.zir_tree.specs.declared.comp.Member.{Member, Bind, Var, Run}
 use Rattle.zir_tree.specs.declared.program.Prog as wide
@@ -79,8 +79,8 @@ expr-bits xs (Binary' op t _ (more_of-Expr a end_of-Expr) _ (more_of-Expr c end_
 expr-bits xs (Index' _ (more_of-Expr a end_of-Expr) _ i at) b e = let f = both (expr false (numbers xs) a) _ b e in absurd (stuck at b f.rest)
 expr-bits xs (Slice' _ (more_of-Expr a end_of-Expr) _ i n at) b e = let f = both (expr false (numbers xs) a) _ b e in absurd (stuck at b f.rest)
 expr-bits xs (Part' _ (more_of-Expr a end_of-Expr) name n at) b e = let f = both (expr false (numbers xs) a) _ b e in absurd (stuck at b f.rest)
-expr-bits xs (Call f callee es) b e = absurd (stuck f.at b e)
-expr-bits xs (Array es at) b e = absurd (stuck at b e)
+expr-bits xs (Call' f callee _ es) b e = absurd (stuck f.at b e)
+expr-bits xs (Array' _ es at) b e = absurd (stuck at b e)
 expr-bits xs (Convert' t _ a at) b e = absurd (stuck at b e)
 expr-bits xs (Complex' t _ a _ c at) b e = absurd (stuck at b e)
 
