@@ -1,6 +1,6 @@
 -- What a program is over bits, where names are looked at, emits bits alone.
-use Rattle.std.specs.Prelude.{ℕ, List, [], ◌∷◌, ◌++◌, ◌≡◌, ◌⊎◌, Bool, true, false, ◌||◌, not, nat_eq, Option, Some, None, refl}
-use Rattle.std.proofs.Common.{ap, ◌∙◌, sym, subst, inl, inr, arith}
+use Rattle.std.specs.Prelude.{ℕ, List, [], ◌∷◌, ◌++◌, ◌≡◌, ◌⊎◌, Bool, true, false, ◌||◌, not, nat_eq, Some, None, refl}
+use Rattle.std.proofs.Common.{ap, ◌∙◌, subst, inl, inr, arith}
 use denote.Hole.Carrier.{hidden}
 use Rattle.zir_tree.specs.declared.ident.Ident.{Ident}
 use Rattle.zir_tree.specs.declared.place.Place.{Place}
@@ -15,7 +15,7 @@ use Rattle.zir_bit_tree.specs.declared.tree.Comp.TheBlock as comp_rows
 use Rattle.zir_bit_tree.specs.declared.tree.Member as bit_member
 use Rattle.zir_bit_tree.specs.declared.tree.Prog.{Prog}
 use Rattle.zir_bits.specs.Bits.{InScope, OfBits, IsTake, IsPlainMember, AreMembers, EmitsBits}
-use Rattle.zir_narrow.specs.Narrow.{Narrow, Fine, Stuck, and_then, allowed, is_bound, is_xor, expr, named, returned, plain_member, bound_member, member, behind, is_end, members, place_of, block, body, is_serial, component, is_bit, of_bits, no_declarations, narrow}
+use Rattle.zir_narrow.specs.Narrow.{Narrow, Fine, Stuck, and_then, allowed, is_bound, is_xor, expr, named, returned, plain_member, bound_member, member, behind, is_end, members, place_of, block, body, is_serial, component, of_bits, no_declarations, narrow}
 
 -- the second part of a walk that is done, and what the first made
 record Both {A B : Type 0} (first : Narrow A) (next : A → Narrow B) (made : B) : Type 0 where

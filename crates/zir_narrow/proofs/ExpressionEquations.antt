@@ -36,9 +36,9 @@ pub part-of : (any : Bool) (bound : List ℕ) (e a : Expr) (at : Place) →
     expr any bound e ≡ and_then (expr any bound a) (λ _. Stuck at)
 part-of any bound e a at h =
     elim h [
-      inl p ↦ ap (expr any bound) p.1 ∙ expr-Index any bound a p.0 at
-    | inr q ↦ elim q [
-        inl p ↦ ap (expr any bound) p.2 ∙ expr-Slice any bound a p.0 p.1 at
-      | inr p ↦ ap (expr any bound) p.2 ∙ expr-Part any bound a p.0 p.1 at
+      | inl p ↦ ap (expr any bound) p.1 ∙ expr-Index any bound a p.0 at
+      | inr q ↦ elim q [
+        | inl p ↦ ap (expr any bound) p.2 ∙ expr-Slice any bound a p.0 p.1 at
+        | inr p ↦ ap (expr any bound) p.2 ∙ expr-Part any bound a p.0 p.1 at
       ]
     ]

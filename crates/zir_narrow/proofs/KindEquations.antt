@@ -1,5 +1,5 @@
 -- The equations of kinds and of faults at the trees that code has.
-use Rattle.std.specs.Prelude.{ℕ, ◌≤◌, ◌≡◌, List, [], ◌∷◌, ◌&&◌, not, Option, refl}
+use Rattle.std.specs.Prelude.{ℕ, ◌≤◌, ◌≡◌, List, [], ◌∷◌, ◌&&◌, not, refl}
 use Rattle.std.proofs.Common.{ap, ◌∙◌, sym, drop, length}
 use Rattle.std.proofs.lemmas.List.{drop_all}
 use denote.Hole.Carrier.{hidden}
@@ -9,7 +9,6 @@ use Rattle.zir_bit_tree.specs.declared.tree.Comp.TheBlock.{shape-the_row-Comp-1,
 use Rattle.zir_bit_tree.specs.declared.tree.Member.{Member}
 use Rattle.zir_narrow.specs.declared.kinds.Kind.{Kind}
 use Rattle.zir_narrow.specs.declared.kinds.Kind.TheVariants.{UnitComputer}
-use Rattle.zir_narrow.specs.declared.kinds.Fault.{Fault}
 use Rattle.zir_narrow.specs.declared.kinds.Fault.TheVariants.{NotUnit, TwoComputers}
 use Rattle.zir_narrow.specs.Kinds.{last_kind, kind_of, kind_of_both, kind_of_step, is_unit, is_computer, or_else, reason, fault}
 

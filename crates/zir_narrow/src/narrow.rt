@@ -248,7 +248,13 @@ fn taken_of(alloc: Global, x: &Ident, c: &Comp) -> Result<bits::Member, NarrowEr
 }
 
 /// A member without a name: `take` or `emit`, and at the end of its block `emit` or `return`.
-fn plain_of(alloc: Global, any: bool, bound: &[u32], last: bool, c: &Comp) -> Result<bits::Member, NarrowError>
+fn plain_of(
+    alloc: Global,
+    any: bool,
+    bound: &[u32],
+    last: bool,
+    c: &Comp,
+) -> Result<bits::Member, NarrowError>
     ensures { Told (plain_member any bound.now last c.now) result }
 {
     match c {

@@ -8,6 +8,19 @@ returns-in-Repeat t c =
 
 pub returns-in-Pipe : goal.returns-in-Pipe
 returns-in-Pipe t c =
-    rw (c.in-Pipe.is, fault-Pipe, c.first-in-Pipe.ensures, c.first-found.ensures, c.because-in-Pipe.ensures, c.both_end-both.ensures,
-        c.kind_of_comp-in-Pipe.ensures, c.kind_of_comp-in-Pipe-2.ensures, c.find_fault.ensures, c.find_fault-in-Pipe.ensures,
-        c.get-in-Pipe.ensures, c.get-in-Pipe-2.ensures, c.get-in-Pipe-3.ensures, c.get-in-Pipe-4.ensures) refl
+    rw (
+      c.in-Pipe.is,
+      fault-Pipe,
+      c.first-in-Pipe.ensures,
+      c.first-found.ensures,
+      c.because-in-Pipe.ensures,
+      c.both_end-both.ensures,
+      c.kind_of_comp-in-Pipe.ensures,
+      c.kind_of_comp-in-Pipe-2.ensures,
+      c.find_fault.ensures,
+      c.find_fault-in-Pipe.ensures,
+      c.get-in-Pipe.ensures,
+      c.get-in-Pipe-2.ensures,
+      c.get-in-Pipe-3.ensures,
+      c.get-in-Pipe-4.ensures,
+    ) refl

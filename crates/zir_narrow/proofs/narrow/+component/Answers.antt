@@ -22,5 +22,10 @@ returns-in_err-right-in-Pipe t c =
 
 pub returns-in_ok-right-in-Pipe : goal.returns-in_ok-right-in-Pipe
 returns-in_ok-right-in-Pipe t c =
-    rw (c.in-Pipe.is, component-Pipe, (rw c.get-in-Pipe.ensures at c.in_ok-left-in-Pipe.ensures), (rw c.is_sequence.ensures at c.in_ok-check-in-Pipe.ensures),
-        (rw c.get-in-Pipe-2.ensures at c.in_ok-right-in-Pipe.ensures)) c.joined.ensures
+    rw (
+      c.in-Pipe.is,
+      component-Pipe,
+      (rw c.get-in-Pipe.ensures at c.in_ok-left-in-Pipe.ensures),
+      (rw c.is_sequence.ensures at c.in_ok-check-in-Pipe.ensures),
+      (rw c.get-in-Pipe-2.ensures at c.in_ok-right-in-Pipe.ensures),
+    ) c.joined.ensures

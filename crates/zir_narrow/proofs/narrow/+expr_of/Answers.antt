@@ -19,8 +19,13 @@ returns-in_err-b-in-Binary t c =
 
 pub returns-in_ok-b-in-Binary : goal.returns-in_ok-b-in-Binary
 returns-in_ok-b-in-Binary t c =
-    rw (c.in-Binary.is, expr-Binary, (rw c.get.ensures at c.in_ok-a-in-Binary.ensures), (rw c.is_exclusive.ensures at c.in_ok-check-in-Binary.ensures),
-        (rw c.get-in-Binary.ensures at c.in_ok-b-in-Binary.ensures)) c.exclusive_or.ensures
+    rw (
+      c.in-Binary.is,
+      expr-Binary,
+      (rw c.get.ensures at c.in_ok-a-in-Binary.ensures),
+      (rw c.is_exclusive.ensures at c.in_ok-check-in-Binary.ensures),
+      (rw c.get-in-Binary.ensures at c.in_ok-b-in-Binary.ensures),
+    ) c.exclusive_or.ensures
 
 pub returns-in_err-_first-in-Index : goal.returns-in_err-_first-in-Index
 returns-in_err-_first-in-Index t c =
