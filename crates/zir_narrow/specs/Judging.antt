@@ -10,9 +10,16 @@ use Rattle.zir_names.specs.Walk as names_walk
 use Rattle.zir_names.specs.Programs.{names}
 use Rattle.zir_bit_tree.specs.declared.tree.Prog.{Prog}
 use Rattle.zir_narrow.specs.Narrow.{Narrow, Fine, Stuck, narrow}
+use Rattle.zir_narrow.specs.declared.narrow.NarrowError.{NarrowError}
+use Rattle.zir_narrow.specs.declared.narrow.NarrowError.TheVariants.{Unbuilt, Memory}
 use Rattle.zir_narrow.specs.declared.kinds.Fault.{Fault}
 use Rattle.zir_narrow.specs.declared.kinds.Fault.TheVariants.{NotUnit, TwoComputers}
 use Rattle.zir_narrow.specs.Kinds.{fault}
+
+-- the refusal of a form that is none over bits
+abbrev pub form_refusal : NarrowError → Refusal
+form_refusal (Unbuilt at) = refused.Unbuilt at
+form_refusal Memory = refused.Memory
 
 -- the refusal of a name
 abbrev pub name_refusal : NameError → Refusal

@@ -1,7 +1,6 @@
 -- Which components over bits are no part of a program: loops of a component that is no computer of unit, and compositions of two computers.
 use Rattle.std.specs.Prelude.{Bool, true, false, ◌&&◌, not, Option, Some, None}
-use Rattle.zir_tree.specs.declared.place.Place.{Place}
-use Rattle.zir_bit_tree.specs.declared.tree.Expr.{Expr, Unit, Bit, Variable, Xor', end_of-Expr, more_of-Expr}
+use Rattle.zir_bit_tree.specs.declared.tree.Expr.{Expr, Unit, Bit, Variable, Xor'}
 use Rattle.zir_bit_tree.specs.declared.tree.Comp.{Comp, Take, Emit, Return, Block', Repeat', Pipe', end_of-Comp, more_of-Comp, Row_of-Member, end_of-Member, more_of-Member}
 use Rattle.zir_narrow.specs.declared.kinds.Kind.{Kind}
 use Rattle.zir_narrow.specs.declared.kinds.Kind.TheVariants.{Transformer, BitComputer, UnitComputer}

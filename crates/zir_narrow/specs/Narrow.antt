@@ -35,11 +35,15 @@ abbrev pub and_then : {A B : Type 0} → Narrow A → (A → Narrow B) → Narro
 and_then (Fine made) next = next made
 and_then (Stuck at) next = Stuck at
 
--- an answer tells what the part is over bits, or the place; want of memory tells nothing
+-- an error tells the place where the part is none; want of memory tells nothing
+abbrev pub Stops : {A : Type 0} → Narrow A → NarrowError → Type 0
+Stops part (Unbuilt at) = part ≡ Stuck at
+Stops part Memory = Unit {0}
+
+-- an answer tells what the part is over bits, or the place
 abbrev pub Told : {A : Type 0} → Narrow A → Result A NarrowError → Type 0
 Told part (Ok made) = part ≡ Fine made
-Told part (Err (Unbuilt at)) = part ≡ Stuck at
-Told part (Err Memory) = Unit {0}
+Told part (Err error) = Stops part error
 
 -- this, where it may stand there, and else its place
 abbrev pub allowed : {A : Type 0} → Bool → Place → A → Narrow A

@@ -1,6 +1,6 @@
 // Which components over bits have a value, and which have one where they may not.
 
-ghost use Rattle.std.specs.Prelude.{◌≡◌};
+ghost use Rattle.std.specs.Prelude.{◌≡◌, ◌&&◌};
 ghost use Rattle.zir_narrow.specs.Kinds.{fault, is_computer, is_unit, kind_of, kind_of_both, kind_of_step, kind_of_value, or_else, reason};
 ghost use Rattle.zir_bit_tree.specs.declared.tree.Comp.{Block};
 ghost use Rattle.zir_tree.specs.declared.place.Place.{Place};
@@ -84,6 +84,12 @@ fn has_value(k: Kind) -> bool
     !matches!(k, Kind::Transformer)
 }
 
+fn both_end(left: Kind, right: Kind) -> bool
+    ensures { result ≡ (is_computer left && is_computer right) }
+{
+    has_value(left) && has_value(right)
+}
+
 fn is_of_unit(k: Kind) -> bool
     ensures { result ≡ is_unit k }
 {
@@ -116,7 +122,7 @@ pub fn find_fault(c: &Comp) -> Option<Fault>
             first(found, because(wrong, Fault::NotUnit(*at)))
         }
         Comp::Pipe(a, b, at) => {
-            let both = has_value(kind_of_comp(a.get())) && has_value(kind_of_comp(b.get()));
+            let both = both_end(kind_of_comp(a.get()), kind_of_comp(b.get()));
             let found = first(find_fault(a.get()), find_fault(b.get()));
             first(found, because(both, Fault::TwoComputers(*at)))
         }

@@ -1,12 +1,12 @@
 // From a program as it is read to the program over bits that it is.
 
-ghost use Rattle.std.specs.Prelude.{◌≡◌, ◌++◌, ◌∷◌, [], IfOk, OnOk, MatchOption, None};
+ghost use Rattle.std.specs.Prelude.{◌≡◌, ◌++◌, ◌∷◌, [], IfOk, OnOk, None};
 ghost use Rattle.zir_bit_tree.specs.declared.tree.Expr.{Variable, Xor};
 ghost use Rattle.zir_bit_tree.specs.declared.tree.Comp.{Pipe, Repeat};
 ghost use Rattle.zir_tree.specs.declared.comp.Comp.{Block};
 ghost use Rattle.zir_narrow.specs.declared.narrow.NarrowError.TheVariants.{Memory};
 ghost use Rattle.zir_narrow.specs.Narrow.{Told, Fine, and_then, allowed, behind, body as body_of, bound_member, component as component_of, declaration_place as place_of_declaration};
-ghost use Rattle.zir_narrow.specs.Narrow.{expr, in_scope, is_bit, is_bound, is_xor, member, named, narrow, no_declarations, of_bits, place_of, plain_member, returned};
+ghost use Rattle.zir_narrow.specs.Narrow.{expr, in_scope, is_bit, is_bound, is_serial, is_xor, member, named, narrow, no_declarations, of_bits, place_of, plain_member, returned};
 
 use sqlite_items::{Boxed, Items};
 use std::alloc::{AllocError, AllocFailed, Global};
@@ -143,12 +143,18 @@ fn component(alloc: Global, any: bool, c: &Comp) -> Result<bits::Comp, NarrowErr
         Comp::Repeat(inner, at) => repeated(alloc, any, inner.get(), *at),
         Comp::Pipe(link, left, right, at) => {
             let left = component(alloc, any, left.get())?;
-            check(matches!(link, Link::Serial), *at)?;
+            check(is_sequence(*link), *at)?;
             let right = component(alloc, any, right.get())?;
             joined(alloc, left, right, *at)
         }
         other => Err(NarrowError::Unbuilt(place(other))),
     }
+}
+
+fn is_sequence(link: Link) -> bool
+    ensures { result ≡ is_serial link }
+{
+    matches!(link, Link::Serial)
 }
 
 /// A composition of two components over bits.
@@ -182,20 +188,13 @@ fn block_of(alloc: Global, any: bool, ms: &[Member], at: Place) -> Result<bits::
 {
     let mut made = Items::new(alloc);
     let mut bound = Vec::new(alloc);
-    let mut rest = ms;
-    while let Some((first, after)) = split(rest) {
-        made.push(member_of(alloc, any, bound.as_slice(), after.is_empty(), first)?)?;
-        enter(&mut bound, first)?;
-        rest = after;
+    for (index, m) in ms.iter().enumerate() {
+        let last = index + 1 == ms.len();
+        let narrowed = member_of(alloc, any, bound.as_slice(), last, m)?;
+        made.push(narrowed)?;
+        enter(&mut bound, m)?;
     }
     Ok(bits::Comp::Block(made, at))
-}
-
-/// The first member and those after it.
-fn split(ms: &[Member]) -> Option<(&Member, &[Member])>
-    ensures { MatchOption result (ms.now ≡ []) (λ p. ms.now ≡ p.0.now ∷ p.1.now) }
-{
-    ms.split_first()
 }
 
 /// The name that a member binds is bound behind it.
@@ -249,7 +248,13 @@ fn taken_of(alloc: Global, x: &Ident, c: &Comp) -> Result<bits::Member, NarrowEr
 }
 
 /// A member without a name: `take` or `emit`, and at the end of its block `emit` or `return`.
-fn plain_of(alloc: Global, any: bool, bound: &[u32], last: bool, c: &Comp) -> Result<bits::Member, NarrowError>
+fn plain_of(
+    alloc: Global,
+    any: bool,
+    bound: &[u32],
+    last: bool,
+    c: &Comp,
+) -> Result<bits::Member, NarrowError>
     ensures { Told (plain_member any bound.now last c.now) result }
 {
     match c {

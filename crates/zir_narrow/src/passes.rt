@@ -3,7 +3,7 @@
 ghost use Rattle.std.specs.Prelude.{◌≡◌, IfOk, false};
 ghost use Rattle.zir_bits.specs.Bits.{EmitsBits};
 ghost use Rattle.zir_narrow.specs.Kinds.{fault};
-ghost use Rattle.zir_narrow.specs.Judging.{Tells, after_forms, after_names, fault_refusal, judged, name_refusal, unless};
+ghost use Rattle.zir_narrow.specs.Judging.{Tells, after_forms, after_names, fault_refusal, form_refusal, judged, name_refusal, unless};
 ghost use Rattle.zir_narrow.specs.Narrow.{narrow};
 ghost use Rattle.zir_names.specs.Programs.{names};
 
@@ -23,11 +23,13 @@ pub fn judge(alloc: Global, p: Prog) -> Result<bits::Prog, Refusal>
 {
     match narrow_program(alloc, true, &p) {
         Ok(_) => resolved(alloc, p),
-        Err(error) => Err(narrow_refusal(error)),
+        Err(error) => Err(refusal_of_form(error)),
     }
 }
 
-fn narrow_refusal(error: NarrowError) -> Refusal {
+fn refusal_of_form(error: NarrowError) -> Refusal
+    ensures { result ≡ form_refusal error }
+{
     match error {
         NarrowError::Unbuilt(at) => Refusal::Unbuilt(at),
         NarrowError::Memory => Refusal::Memory,
@@ -63,7 +65,7 @@ fn narrowed(alloc: Global, p: &Prog) -> Result<bits::Prog, Refusal>
 {
     match narrow_program(alloc, false, p) {
         Ok(program) => sound(program),
-        Err(error) => Err(narrow_refusal(error)),
+        Err(error) => Err(refusal_of_form(error)),
     }
 }
 

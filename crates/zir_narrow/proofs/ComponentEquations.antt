@@ -1,0 +1,31 @@
+-- The equations of components at the trees that code has.
+use Rattle.std.specs.Prelude.{◌≡◌, List, [], Bool, refl}
+use Rattle.std.proofs.Common.{ap}
+use denote.Hole.Carrier.{hidden}
+use Rattle.zir_tree.specs.declared.place.Place.{Place}
+use Rattle.zir_tree.specs.declared.comp.Link.{Link}
+use Rattle.zir_tree.specs.declared.comp.Comp.{Comp, Repeat, Block, Pipe}
+use Rattle.zir_tree.specs.declared.comp.Comp.TheBlock.{shape-the_row-Comp-0, hidden-the_row-Comp-0}
+use Rattle.zir_tree.specs.declared.comp.Member.{Member}
+use Rattle.zir_bit_tree.specs.declared.tree.Comp as bit_comp
+use Rattle.zir_narrow.specs.Narrow.{Fine, and_then, allowed, is_serial, body, component}
+use Rattle.zir_narrow.proofs.Lists.{each, members-list}
+
+pub component-Repeat : (any : Bool) (c : Comp) (at : Place) →
+    component any (Repeat c at) ≡ and_then (body any c) (λ made. Fine (bit_comp.Repeat made at))
+unfolding shape-the_row-Comp-0 hidden-the_row-Comp-0 hidden
+component-Repeat any c at = refl
+
+pub component-Pipe : (any : Bool) (link : Link) (c d : Comp) (at : Place) →
+    component any (Pipe link c d at) ≡
+    and_then (component any c) (λ left. and_then (allowed (is_serial link) at (tt {0})) (λ _. and_then (component any d) (λ right. Fine (bit_comp.Pipe left right at))))
+unfolding shape-the_row-Comp-0 hidden-the_row-Comp-0 hidden
+component-Pipe any link c d at = refl
+
+pub component-Block : (any : Bool) (ms : List Member) (at : Place) →
+    component any (Block ms at) ≡ and_then (each any [] ms) (λ made. Fine (bit_comp.Block made at))
+component-Block any ms at = ap (λ w. and_then w (λ made. Fine (bit_comp.Block made at))) (members-list any [] ms)
+
+-- a block as the body of a loop is that block
+pub body-Block : (any : Bool) (ms : List Member) (at : Place) → body any (Block ms at) ≡ component any (Block ms at)
+body-Block any ms at = refl
