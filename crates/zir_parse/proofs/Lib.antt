@@ -1,0 +1,9 @@
+pub mod Answered
+pub mod Steps
+pub mod HeadSteps
+pub mod ChainSteps
+pub mod ChoiceSteps
+pub mod LoopSteps
+pub mod MemberSteps
+pub mod MainSteps
+pub mod ProgramSteps

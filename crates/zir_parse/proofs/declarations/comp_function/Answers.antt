@@ -1,0 +1,62 @@
+use Rattle.std.proofs.Common.{◌≡◌, ◌+◌, ◌≤◌, ℕ, suc, max, List, [], ◌∷◌, ◌++◌, sym, ap, ◌∙◌, rules, arith}
+use Rattle.std.proofs.lemmas.Result.{err_from_is_err_and}
+use Rattle.zir_tree.specs.declared.place.Place.{Place}
+use Rattle.zir_tree.specs.declared.program.Decl.{Decl}
+use Rattle.zir_tree.specs.declared.program.Decl.TheVariants as decl
+use Rattle.zir_tree.specs.declared.program.Prog.{Prog}
+use Rattle.zir_lex.specs.declared.token.Symbol.TheVariants as symbol
+use Rattle.zir_grammar.specs.declared.enclosure.Enclosure.TheVariants.{Braces}
+use Rattle.zir_grammar.specs.Grammar.{ident}
+use Rattle.zir_grammar.specs.Parts.{Rest, reads, wants_sign, a_field, more_fields, some_params, a_result, a_body, a_block, more_decls}
+use Rattle.zir_grammar.specs.Machine.{run}
+use Rattle.zir_grammar.proofs.Descent.{stop_leads, leads_on, fits}
+use Rattle.zir_parse.proofs.HeadSteps.{declared_taken, declared_all, next_decl}
+use Rattle.zir_parse.proofs.ProgramSteps.{decl_room, part_room, comp_begins, function_begins, no_result, result_begins}
+use Rattle.zir_tree.specs.declared.types.Field.{Field}
+use Rattle.zir_tree.specs.declared.comp.Comp.{Comp}
+use Rattle.zir_parse.proofs.declarations.comp_function.Goals as goal
+
+-- a function of components of its parts
+abbrev made : Place → List ℕ × Place → List Field → Comp → Decl
+made at p fs b = decl.Comp (record { name = ident p.0 p.1; params = fs; body = b; at = at })
+
+abbrev params_of : Place → (Decl → ℕ → Rest Prog) → List ℕ × Place → Rest Prog
+params_of at k p = reads some_params (λ fs f. reads a_block (λ b h. k (made at p fs b) h))
+
+pub returns-in_err-name-clause-read : goal.returns-in_err-name-clause-read
+returns-in_err-name-clause-read c most k has =
+    let p = err_from_is_err_and c.from_residual.result c.from_residual.ensures.1 in
+    rw (p.1, p.2) (c.in_err-name.ensures.read most (λ p. wants_sign symbol.LeftParenthesis (params_of c.args.at k p)) (λ p. fits most k 0 c.args.room _ 2 has (omega arith) c.requires))
+
+pub returns-in_err-rest-clause-read : goal.returns-in_err-rest-clause-read
+returns-in_err-rest-clause-read c most k has =
+    let p = err_from_is_err_and c.from_residual-in_err-rest.result c.from_residual-in_err-rest.ensures.1 in
+    rw (p.1, p.2) (stop_leads c.in_err-rest.field-0.0 _ _
+    (c.in_ok-name.ensures.read most (λ p. wants_sign symbol.LeftParenthesis (params_of c.args.at k p)) (λ p. fits most k 0 c.args.room _ 2 has (omega arith) c.requires))
+    (c.in_err-rest.ensures.read most (params_of c.args.at k (c.in_ok-name.name.name, c.in_ok-name.name.at)) (fits most k 0 c.args.room _ 2 has (omega arith) c.requires)))
+
+pub returns-in_err-params-clause-read : goal.returns-in_err-params-clause-read
+returns-in_err-params-clause-read c most k has =
+    let p = err_from_is_err_and c.from_residual-in_err-params.result c.from_residual-in_err-params.ensures.1 in
+    rw (p.1, p.2) (stop_leads c.in_err-params.field-0.0 _ _
+    (c.in_ok-name.ensures.read most (λ p. wants_sign symbol.LeftParenthesis (params_of c.args.at k p)) (λ p. fits most k 0 c.args.room _ 2 has (omega arith) c.requires)
+    ∙ c.in_ok-rest.ensures.read most (params_of c.args.at k (c.in_ok-name.name.name, c.in_ok-name.name.at)) (fits most k 0 c.args.room _ 2 has (omega arith) c.requires))
+    (c.in_err-params.ensures.read most (λ fs f. reads a_block (λ b h. k (made c.args.at (c.in_ok-name.name.name, c.in_ok-name.name.at) fs b) h)) (λ fs. fits most k 0 c.args.room _ 2 has (omega arith) c.requires)))
+
+pub returns-in_err-body-clause-read : goal.returns-in_err-body-clause-read
+returns-in_err-body-clause-read c most k has =
+    let p = err_from_is_err_and c.from_residual-in_err-body.result c.from_residual-in_err-body.ensures.1 in
+    rw (p.1, p.2) (stop_leads c.in_err-body.field-0.0 _ _
+    (c.in_ok-name.ensures.read most (λ p. wants_sign symbol.LeftParenthesis (params_of c.args.at k p)) (λ p. fits most k 0 c.args.room _ 2 has (omega arith) c.requires)
+    ∙ c.in_ok-rest.ensures.read most (params_of c.args.at k (c.in_ok-name.name.name, c.in_ok-name.name.at)) (fits most k 0 c.args.room _ 2 has (omega arith) c.requires)
+    ∙ c.in_ok-params.ensures.read most (λ fs f. reads a_block (λ b h. k (made c.args.at (c.in_ok-name.name.name, c.in_ok-name.name.at) fs b) h)) (λ fs. fits most k 0 c.args.room _ 2 has (omega arith) c.requires))
+    (c.in_err-body.ensures.read most (λ b h. k (made c.args.at (c.in_ok-name.name.name, c.in_ok-name.name.at) c.in_ok-params.params b) h) (part_room most 0 2 c.args.room k (made c.args.at (c.in_ok-name.name.name, c.in_ok-name.name.at) c.in_ok-params.params) has (omega arith))))
+
+pub returns-clause-read : goal.returns-clause-read
+returns-clause-read c most k has =
+    c.in_ok-name.ensures.read most (λ p. wants_sign symbol.LeftParenthesis (params_of c.args.at k p)) (λ p. fits most k 0 c.args.room _ 2 has (omega arith) c.requires)
+    ∙ c.in_ok-rest.ensures.read most (params_of c.args.at k (c.in_ok-name.name.name, c.in_ok-name.name.at)) (fits most k 0 c.args.room _ 2 has (omega arith) c.requires)
+    ∙ c.in_ok-params.ensures.read most (λ fs f. reads a_block (λ b h. k (made c.args.at (c.in_ok-name.name.name, c.in_ok-name.name.at) fs b) h)) (λ fs. fits most k 0 c.args.room _ 2 has (omega arith) c.requires)
+    ∙ c.in_ok-body.ensures.read most (λ b h. k (made c.args.at (c.in_ok-name.name.name, c.in_ok-name.name.at) c.in_ok-params.params b) h) (part_room most 0 2 c.args.room k (made c.args.at (c.in_ok-name.name.name, c.in_ok-name.name.at) c.in_ok-params.params) has (omega arith))
+    ∙ ap (λ n. run most (k (decl.Comp (record { name = n; params = c.in_ok-params.params; body = c.in_ok-body.body; at = c.args.at })) c.in_ok-body.height) c.in_ok-body.rest.now)
+    (sym c.in_ok-name.ensures.new)
