@@ -1,5 +1,5 @@
 -- What is answered to the whole of the tokens.
-use Rattle.std.proofs.Common.{◌≡◌, ◌≤◌, ◌+◌, ◌-◌, ℕ, List, ◌++◌, length, Ok, Err, ap, ◌∙◌, subst, arith, length-append}
+use Rattle.std.proofs.Common.{◌≡◌, ◌≤◌, ◌+◌, ◌-◌, ℕ, List, length, Ok, Err, ap, ◌∙◌, subst, arith, length-append}
 use Rattle.zir_lex.specs.declared.token.Token.{Token}
 use Rattle.zir_tree.specs.declared.program.Prog.{Prog}
 use Rattle.zir_grammar.specs.declared.error.ParseError.TheVariants.{Syntax, TooDeep}

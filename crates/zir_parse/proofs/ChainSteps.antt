@@ -1,5 +1,5 @@
 -- Components joined by signs as they are read.
-use Rattle.std.proofs.Common.{◌≡◌, ◌≤◌, ◌<◌, ◌-◌, ℕ, suc, max, nat_le, List, [], ◌∷◌, length, Some, None, Err, refl, sym, ap, ◌∙◌, arith}
+use Rattle.std.proofs.Common.{◌≡◌, ◌≤◌, ◌<◌, ◌-◌, ℕ, suc, max, List, length, Some, None, Err, refl, ◌∙◌, arith}
 use Rattle.zir_tree.specs.declared.place.Place.{Place}
 use Rattle.zir_tree.specs.declared.comp.Link.{Link}
 use Rattle.zir_tree.specs.declared.comp.Comp.{Comp}
@@ -9,7 +9,7 @@ use Rattle.zir_lex.specs.declared.token.Token.{Token}
 use Rattle.zir_grammar.specs.declared.error.ParseError.TheVariants as errors
 use Rattle.zir_grammar.specs.Wants.{a_link, told}
 use Rattle.zir_grammar.specs.Parts.{Rest, a_chain, links_of, reads, done_with}
-use Rattle.zir_grammar.specs.Machine.{least, run}
+use Rattle.zir_grammar.specs.Machine.{run}
 use Rattle.zir_grammar.specs.Reading.{at_front, HasRoom}
 use Rattle.zir_grammar.proofs.Descent.{taken, deep, left_out, led, told_found, fits, too_high, same_test}
 

@@ -1,5 +1,5 @@
 -- A choice and parentheses as they are read.
-use Rattle.std.proofs.Common.{◌≡◌, ◌≤◌, ◌<◌, ◌-◌, ℕ, suc, max, nat_le, true, refl, ap, ◌∙◌, arith}
+use Rattle.std.proofs.Common.{◌≡◌, ◌≤◌, ◌<◌, ◌-◌, ℕ, suc, max, nat_le, true, ◌∙◌, arith}
 use Rattle.zir_tree.specs.declared.place.Place.{Place}
 use Rattle.zir_tree.specs.declared.expr.Expr.{Expr}
 use Rattle.zir_tree.specs.declared.comp.Comp.{Comp}

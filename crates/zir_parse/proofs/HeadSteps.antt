@@ -1,5 +1,5 @@
 -- Components and declarations by what they begin with.
-use Rattle.std.proofs.Common.{◌≡◌, ◌≤◌, ◌<◌, ℕ, suc, max, nat_le, true, false, List, [], ◌∷◌, ◌++◌, length, Option, Some, None, Err, refl, sym, ap, ◌∙◌, arith, subst}
+use Rattle.std.proofs.Common.{◌≡◌, ◌≤◌, ◌<◌, ℕ, max, List, [], ◌∷◌, ◌++◌, length, Option, Some, None, Err, refl, ap, ◌∙◌, arith, subst}
 use Rattle.zir_tree.specs.declared.place.Place.{Place}
 use Rattle.zir_tree.specs.declared.comp.Comp.{Comp}
 use Rattle.zir_tree.specs.declared.program.Decl.{Decl}
@@ -17,14 +17,13 @@ use Rattle.zir_grammar.specs.Reading.{at_front, HasRoom}
 use Rattle.zir_grammar.proofs.Descent.{front_none, follow_follow}
 use Rattle.zir_grammar.proofs.Tables.{found_lead}
 use Rattle.zir_parse.specs.declared.heads.Loop.TheVariants as «loop»
-use Rattle.zir_parse.specs.declared.heads.Form.{Form}
 use Rattle.zir_parse.specs.declared.heads.Form.TheVariants as form
 use Rattle.zir_parse.specs.declared.heads.Single.TheVariants as single
 use Rattle.zir_parse.specs.declared.heads.Head.{Head}
 use Rattle.zir_parse.specs.declared.heads.Head.TheVariants as head
 use Rattle.zir_parse.specs.declared.heads.Declares.{Declares}
 use Rattle.zir_parse.specs.declared.heads.Declares.TheVariants as declares
-use Rattle.zir_parse.specs.Heads.{form_of, head_of, head_front, least_height, behind_head, behind_form, declares_of, declares_front, behind_word}
+use Rattle.zir_parse.specs.Heads.{head_of, head_front, least_height, behind_head, declares_of, declares_front, behind_word}
 use Rattle.zir_parse.proofs.Steps.{takes, takes_deep, stops, passes, lead_none}
 
 -- the table finds what the head says
@@ -152,7 +151,7 @@ declared_taken most room done low k [] d at rest e has small two = absurd (cc e)
 declared_taken most room done low k (t ∷ ts) d at rest e has small two =
     let x = looked_up (declares_of t.lexeme) t ts d at rest e in
     let is : found decl_entries t ≡ Some (behind_word d at) =
-        declares_entry t.lexeme t.at ∙ ap (λ o. if_found o (λ y. Some (behind_word y t.at)) None) x.0 ∙ ap (λ p. Some (behind_word d p)) x.1 in
+    declares_entry t.lexeme t.at ∙ ap (λ o. if_found o (λ y. Some (behind_word y t.at)) None) x.0 ∙ ap (λ p. Some (behind_word d p)) x.1 in
     takes most 0 room (more_decls done low) k t ts (follow (behind_word d at) (λ e h. reads (more_decls (done ++ e ∷ []) (max low h)) done_with))
     (found_lead decl_entries (λ e h. reads (more_decls (done ++ e ∷ []) (max low h)) done_with) t (behind_word d at) is) has (omega arith)
     (word_least d at done low room small two)

@@ -1,14 +1,13 @@
 -- Loops as they are read.
-use Rattle.std.proofs.Common.{◌≡◌, ◌≤◌, ◌<◌, ◌-◌, ℕ, suc, max, nat_le, true, List, [], ◌∷◌, Some, None, refl, ap, ◌∙◌, arith, subst}
+use Rattle.std.proofs.Common.{◌≡◌, ◌≤◌, ◌<◌, ◌-◌, ℕ, suc, max, nat_le, true, List, Some, None, refl, ◌∙◌, arith, subst}
 use Rattle.zir_tree.specs.declared.place.Place.{Place}
-use Rattle.zir_tree.specs.declared.expr.Expr.{Expr}
 use Rattle.zir_tree.specs.declared.comp.Comp.{Comp}
 use Rattle.zir_tree.specs.declared.comp.Comp as comp
 use Rattle.zir_tree.specs.declared.program.Prog.{Prog}
 use Rattle.zir_lex.specs.declared.token.Token.{Token}
 use Rattle.zir_lex.specs.declared.token.Symbol.TheVariants as symbol
 use Rattle.zir_grammar.specs.Wants.{a_sign, a_number, told}
-use Rattle.zir_grammar.specs.Parts.{Rest, gives, wants, reads, wants_sign, a_chain, behind_repeat, entries, repeat_entries}
+use Rattle.zir_grammar.specs.Parts.{Rest, gives, wants, reads, wants_sign, a_chain, behind_repeat, repeat_entries}
 use Rattle.zir_grammar.specs.Machine.{least, run}
 use Rattle.zir_grammar.specs.Reading.{at_front, HasRoom}
 use Rattle.zir_grammar.proofs.Descent.{taken, led, by_token, front_none, fits, same_test}

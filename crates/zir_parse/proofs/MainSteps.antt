@@ -1,5 +1,5 @@
 -- The main component and its neighbours as they are read.
-use Rattle.std.proofs.Common.{◌≡◌, ◌≤◌, ◌<◌, ◌-◌, ℕ, zero, suc, max, nat_le, true, false, List, [], ◌∷◌, length, Option, Some, None, Ok, Err, refl, sym, ap, ◌∙◌, arith, subst, if◌then◌else◌}
+use Rattle.std.proofs.Common.{◌≡◌, ◌≤◌, ◌<◌, ◌-◌, ℕ, suc, max, List, [], ◌∷◌, length, Some, None, Ok, Err, refl, sym, ap, ◌∙◌, arith, subst}
 use Rattle.zir_tree.specs.declared.place.Place.{Place}
 use Rattle.zir_tree.specs.declared.comp.Comp.{Comp}
 use Rattle.zir_tree.specs.declared.comp.Comp as comp
@@ -25,7 +25,7 @@ use Rattle.zir_grammar.specs.Parts.{
   entries,
   pipe_entries,
 }
-use Rattle.zir_grammar.specs.Machine.{least, found, step, finish, run}
+use Rattle.zir_grammar.specs.Machine.{step, finish, run}
 use Rattle.zir_grammar.specs.Reading.{at_front, HasRoom}
 use Rattle.zir_grammar.proofs.Descent.{refused, taken, led, by_token, front_none, fits, same_test, Next, run_next}
 use Rattle.zir_grammar.proofs.Tables.{not_first}
@@ -84,7 +84,7 @@ sign_step : (left : Left) (c : Comp) (h : ℕ) (k : After Prog) (t : Token) → 
 unfolding step
 sign_step left c h k t none =
     let other = if_found (told (a_sign symbol.ParallelPipe) t)
-        (λ at. Some (reads (a_chain 0) (λ d g. reads (behind_main (Some (joined left c, joined_height left h, at)) d g) done_with))) None in
+    (λ at. Some (reads (a_chain 0) (λ d g. reads (behind_main (Some (joined left c, joined_height left h, at)) d g) done_with))) None in
     ap (λ o. if_found o (λ r. Some (follow r k)) None)
     (not_first (told (a_sign symbol.Pipe) t) (λ at. Some (reads (behind_pipe left c h at) done_with)) other other none refl
     ∙ sym (not_first (told (a_sign symbol.Pipe) t) (λ at. Some (reads (behind_pipe None (joined left c) (joined_height left h) at) done_with)) other other none refl))

@@ -1,8 +1,7 @@
 -- Members of a block as they are read.
-use Rattle.std.proofs.Common.{◌≡◌, ◌≤◌, ◌<◌, ◌+◌, ◌-◌, ℕ, suc, max, nat_le, true, false, List, [], ◌∷◌, ◌++◌, length, Option, Some, None, Err, refl, sym, ap, ◌∙◌, arith, subst}
+use Rattle.std.proofs.Common.{◌≡◌, ◌≤◌, ◌<◌, ◌+◌, ◌-◌, ℕ, suc, max, nat_le, true, List, [], ◌∷◌, ◌++◌, length, Option, Some, None, Err, refl, sym, ap, ◌∙◌, arith, subst}
 use Rattle.zir_tree.specs.declared.place.Place.{Place}
 use Rattle.zir_tree.specs.declared.ident.Ident.{Ident}
-use Rattle.zir_tree.specs.declared.stmt.Var.{Var}
 use Rattle.zir_tree.specs.declared.comp.Comp.{Comp}
 use Rattle.zir_tree.specs.declared.comp.Comp as comp
 use Rattle.zir_tree.specs.declared.comp.Member.{Member}
@@ -14,27 +13,10 @@ use Rattle.zir_lex.specs.declared.token.Symbol.TheVariants as symbol
 use Rattle.zir_grammar.specs.declared.error.ParseError.TheVariants as errors
 use Rattle.zir_grammar.specs.Grammar.{ident}
 use Rattle.zir_grammar.specs.Wants.{a_sign, a_word, a_name, told, if_found}
-use Rattle.zir_grammar.specs.Parts.{
-  Rest,
-  gives,
-  wants,
-  either,
-  reads,
-  follow,
-  wants_sign,
-  some_args,
-  links_of,
-  a_chain,
-  more_members,
-  behind_semicolon,
-  entries,
-  done_with,
-  member_named,
-  member_end,
-}
+use Rattle.zir_grammar.specs.Parts.{Rest, gives, wants, reads, follow, wants_sign, some_args, links_of, a_chain, more_members, behind_semicolon, entries, done_with, member_named, member_end}
 use Rattle.zir_grammar.specs.Machine.{least, found, step, finish, run}
 use Rattle.zir_grammar.specs.Reading.{at_front, HasRoom}
-use Rattle.zir_grammar.proofs.Descent.{taken, wanted, unwanted, led, by_token, front_is, front_none, Next, run_next, fits, too_high, same_test}
+use Rattle.zir_grammar.proofs.Descent.{taken, wanted, led, by_token, front_is, front_none, Next, run_next, fits, too_high, same_test}
 use Rattle.zir_grammar.proofs.Tables.{not_first}
 use Rattle.zir_parse.specs.Members.{binder_front, a_member_end, a_variable_behind, a_bound_behind, a_run}
 use Rattle.zir_parse.proofs.Steps.{begins, only_first, only_second, other_kind, wanted_deep}

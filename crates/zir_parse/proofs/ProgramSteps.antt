@@ -1,5 +1,5 @@
 -- Declarations and programs as they are read.
-use Rattle.std.proofs.Common.{◌≡◌, ◌≤◌, ◌<◌, ℕ, suc, max, nat_le, Bool, true, false, List, [], ◌∷◌, ◌++◌, Option, Some, None, refl, ap, ◌∙◌, arith, if◌then◌else◌}
+use Rattle.std.proofs.Common.{◌≡◌, ◌≤◌, ℕ, max, nat_le, Bool, true, false, List, [], ◌∷◌, ◌++◌, Option, Some, None, refl, ap, ◌∙◌, arith, if◌then◌else◌}
 use Rattle.zir_tree.specs.declared.place.Place.{Place}
 use Rattle.zir_tree.specs.declared.types.TypeExpr.{TypeExpr}
 use Rattle.zir_tree.specs.declared.comp.Comp.{Comp}
@@ -13,7 +13,7 @@ use Rattle.zir_lex.specs.declared.token.Keyword.TheVariants as keyword
 use Rattle.zir_lex.specs.declared.token.Symbol.TheVariants as symbol
 use Rattle.zir_grammar.specs.Grammar.{name, main_bytes}
 use Rattle.zir_grammar.specs.Wants.{a_sign, a_word, a_name, the_main, told, if_found}
-use Rattle.zir_grammar.specs.Parts.{Rest, gives, wants, either, reads, follow, wants_sign, wants_word, a_type_part, a_chain, a_result, behind_main, function_rest, comp_rest, entries}
+use Rattle.zir_grammar.specs.Parts.{Rest, gives, wants, reads, follow, wants_sign, wants_word, a_type_part, a_chain, a_result, behind_main, function_rest, comp_rest, entries}
 use Rattle.zir_grammar.specs.Machine.{least, run}
 use Rattle.zir_grammar.specs.Reading.{at_front, HasRoom}
 use Rattle.zir_grammar.proofs.Descent.{taken, left_out, wanted, by_token, fits, same_test, front_is, front_none}

@@ -1,5 +1,5 @@
 -- Steps at the front of the tokens: a token that a part takes or does not, and one of two kinds.
-use Rattle.std.proofs.Common.{◌≡◌, ◌≤◌, ◌<◌, ◌-◌, ℕ, suc, max, nat_le, Bool, true, false, List, [], ◌∷◌, length, Option, Some, None, Result, Ok, Err, refl, sym, ap, ◌∙◌, if◌then◌else◌, arith}
+use Rattle.std.proofs.Common.{◌≡◌, ◌≤◌, ◌<◌, ◌-◌, ℕ, suc, nat_le, true, false, List, [], ◌∷◌, length, Option, Some, None, Err, refl, sym, ap, ◌∙◌, if◌then◌else◌, arith}
 use Rattle.zir_lex.specs.declared.token.Token.{Token}
 use Rattle.zir_tree.specs.declared.program.Prog.{Prog}
 use Rattle.zir_grammar.specs.declared.error.ParseError.TheVariants as errors
@@ -7,7 +7,7 @@ use Rattle.zir_grammar.specs.Wants.{Want, Payload, token_of, told, if_found}
 use Rattle.zir_grammar.specs.Parts.{Part, Tree, Rest, wants, either, reads, follow, Entry, lead, entries, may_be_empty}
 use Rattle.zir_grammar.specs.Machine.{lowest_tree, lowest, least, found, step, finish, run}
 use Rattle.zir_grammar.specs.Reading.{at_front, HasRoom}
-use Rattle.zir_grammar.proofs.Descent.{front_is, front_none, Next, run_next, told_found, taken, deep, fits, too_high, same_test, room_of, by_token}
+use Rattle.zir_grammar.proofs.Descent.{front_is, front_none, Next, run_next, told_found, taken, deep, fits, too_high, same_test, by_token}
 use Rattle.zir_grammar.proofs.Follow.{lowest_of, least_follow}
 use Rattle.zir_grammar.proofs.Tables.{not_first}
 

@@ -1,7 +1,6 @@
 -- What components and declarations begin with, and what is expected behind that.
 use Rattle.std.specs.Prelude.{ℕ, suc, max, List, [], ◌∷◌, Option, Some, None}
 use Rattle.zir_tree.specs.declared.place.Place.{Place}
-use Rattle.zir_tree.specs.declared.ident.Ident.{Ident}
 use Rattle.zir_tree.specs.declared.expr.Expr.{Expr}
 use Rattle.zir_tree.specs.declared.comp.Turning.TheVariants as turning
 use Rattle.zir_tree.specs.declared.comp.Comp as comp

@@ -1,35 +1,65 @@
+// Programs that are read whole, and ones that are too high or wrong.
+
 use crate::program::parse;
 use std::alloc::Global;
 use std::test::*;
-use zir_lex::lexer::lex;
 use zir_grammar::error::ParseError;
+use zir_lex::lexer::lex;
 
-fn answer(alloc: Global, text: &[u8]) -> Result<String, Fail> {
+fn answer(alloc: Global, text: &[u8]) -> Result<(), ParseError> {
     let Ok(tokens) = lex(alloc, text) else {
-        return Ok(format!(in alloc; "no tokens")?);
+        return Err(ParseError::Memory);
     };
-    Ok(match parse(alloc, tokens.as_slice()) {
-        Ok(program) => format!(in alloc; "{program:?}")?,
-        Err(ParseError::Syntax(k)) => format!(in alloc; "syntax {k}")?,
-        Err(ParseError::TooDeep(k)) => format!(in alloc; "deep {k}")?,
-        Err(ParseError::Memory) => format!(in alloc; "memory")?,
-    })
+    match parse(alloc, tokens.as_slice()) {
+        Ok(program) => {
+            drop(program);
+            Ok(())
+        }
+        Err(error) => Err(error),
+    }
 }
 
 #[test]
-fn rows(rt: HostRuntime) -> Result<(), Fail> {
+fn whole(rt: HostRuntime) -> Result<(), Fail> {
     let alloc = rt.alloc();
     assert_eq!(rt;
-        answer(alloc, b"let comp main = read")?.as_str(),
-        "syntax 5"
+        answer(
+            alloc,
+            b"struct pair = { a : int; b : int } var v : int := 1; fun f(x : int) : int { return x } fun comp g() { var w : bit; x <- take; do { w := x }; emit w } let comp main = read[bit] >>> repeat { x <- take; emit x } >>> map f |>>>| g() >>> write[bit]"
+        ),
+        Ok(())
+    );
+    assert_eq!(rt;
+        answer(
+            alloc,
+            b"let comp main = read[bit] >>> (((((((((((((((((((((((((((((((((((((((((((((((((((((((((((((((take))))))))))))))))))))))))))))))))))))))))))))))))))))))))))))))) >>> write[bit]"
+        ),
+        Ok(())
+    );
+    Ok(())
+}
+
+#[test]
+fn refused(rt: HostRuntime) -> Result<(), Fail> {
+    let alloc = rt.alloc();
+    assert_eq!(rt; answer(alloc, b""), Err(ParseError::Syntax(0)));
+    assert_eq!(rt;
+        answer(alloc, b"let comp main = read"),
+        Err(ParseError::Syntax(5))
     );
     assert_eq!(rt;
         answer(
             alloc,
             b"let comp main = read[bit] >>> take >>> write[bit] ;"
-        )?
-        .as_str(),
-        "syntax 14"
+        ),
+        Err(ParseError::Syntax(15))
+    );
+    assert_eq!(rt;
+        answer(
+            alloc,
+            b"let comp main = read[bit] >>> ((((((((((((((((((((((((((((((((((((((((((((((((((((((((((((((((take)))))))))))))))))))))))))))))))))))))))))))))))))))))))))))))))) >>> write[bit]"
+        ),
+        Err(ParseError::TooDeep(72))
     );
     Ok(())
 }

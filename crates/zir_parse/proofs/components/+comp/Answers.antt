@@ -1,22 +1,18 @@
-use Rattle.std.proofs.Common.{rules, ◌≡◌, ◌≤◌, ◌<◌, ◌+◌, ◌-◌, ℕ, suc, max, List, [], ◌∷◌, ◌++◌, length, Some, refl, sym, ap, ◌∙◌, arith}
+use Rattle.std.proofs.Common.{rules, ◌≡◌, ◌≤◌, ◌<◌, ◌+◌, ◌-◌, ℕ, suc, max, [], ◌∷◌, ◌++◌, refl, sym, ap, ◌∙◌, arith}
 use Rattle.std.proofs.lemmas.Result.{err_from_is_err_and}
 use Rattle.zir_tree.specs.declared.comp.Comp.{Comp}
 use Rattle.zir_tree.specs.declared.comp.Comp as comp
 use Rattle.zir_tree.specs.declared.comp.Member as member
-use Rattle.zir_tree.specs.declared.program.Prog.{Prog}
 use Rattle.zir_lex.specs.declared.token.Keyword.TheVariants as keyword
 use Rattle.zir_lex.specs.declared.token.Symbol.TheVariants as symbol
 use Rattle.zir_grammar.specs.Grammar.{ident}
 use Rattle.zir_grammar.specs.Wants.{a_name}
-use Rattle.zir_grammar.specs.Parts.{Rest, gives, reads, wants_sign, wants_word, some_args, a_chain, links_of, more_members, follow}
+use Rattle.zir_grammar.specs.Parts.{gives, reads, wants_sign, wants_word, some_args, a_chain, links_of, more_members, follow}
 use Rattle.zir_grammar.specs.Machine.{run}
-use Rattle.zir_grammar.specs.Reading.{HasRoom}
 use Rattle.zir_grammar.proofs.Descent.{stop_leads, leads_on, fits}
-use Rattle.zir_parse.specs.declared.heads.Head.TheVariants as head
-use Rattle.zir_parse.specs.declared.heads.Form.TheVariants as form
-use Rattle.zir_parse.specs.Heads.{least_height, behind_head, a_call_behind, a_single_behind, a_form_behind}
+use Rattle.zir_parse.specs.Heads.{least_height, behind_head, a_form_behind}
 use Rattle.zir_parse.specs.Loops.{looped}
-use Rattle.zir_parse.specs.Members.{behind_member, a_member_end, a_variable_behind, a_bound_behind, a_run}
+use Rattle.zir_parse.specs.Members.{behind_member, a_member_end, a_bound_behind}
 use Rattle.zir_parse.proofs.Steps.{begins, begins_deep, inside}
 use Rattle.zir_parse.proofs.HeadSteps.{head_taken, head_deep, no_head}
 use Rattle.zir_parse.proofs.ChainSteps.{rank_begins, rank_ends, right_side, link_fits, link_deep, right_room}
@@ -153,7 +149,7 @@ chain-loop-link-preserved t c =
     record {
       read = λ most k has. rw (c.in_ok-before.ensures, c.in_ok-behind.ensures, up)
           (c.loop-link.invariant.read most k has
-    ∙ link_fits most (c.args.ranks - 1) c.args.room k c.loop-link.left c.loop-link.height c.loop-link.rest.now c.in-Some.link c.in-Some.at c.in-Some.after.now c.in-Some.ensures.found has c.loop-link.invariant.low c.if-height-room.false
+          ∙ link_fits most (c.args.ranks - 1) c.args.room k c.loop-link.left c.loop-link.height c.loop-link.rest.now c.in-Some.link c.in-Some.at c.in-Some.after.now c.in-Some.ensures.found has c.loop-link.invariant.low c.if-height-room.false
           ∙ c.in_ok-right.ensures.read most (right_side (c.args.ranks - 1) c.in-Some.link c.in-Some.at c.loop-link.left c.loop-link.height k) (right_room most (c.args.ranks - 1) c.args.room k c.loop-link.left c.loop-link.height c.in-Some.link c.in-Some.at has c.if-height-room.false));
       low = omega arith;
       high = omega (arith, up, c.in_ok-right.ensures.high, c.if-height-room.false);

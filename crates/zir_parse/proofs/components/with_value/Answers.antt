@@ -1,12 +1,7 @@
-use Rattle.std.proofs.Common.{◌≡◌, ◌+◌, suc, ◌∙◌, arith}
+use Rattle.std.proofs.Common.{◌≡◌, ◌+◌, suc, arith}
 use Rattle.std.proofs.lemmas.Result.{err_from_is_err_and}
 use Rattle.zir_parse.specs.Heads.{giving_of}
 use Rattle.zir_parse.proofs.Steps.{inside}
-use Rattle.zir_parse.proofs.HeadSteps as head_steps
-use Rattle.zir_parse.proofs.ChainSteps as chain_steps
-use Rattle.zir_parse.proofs.LoopSteps as loop_steps
-use Rattle.zir_parse.proofs.MemberSteps as member_steps
-use Rattle.zir_parse.proofs.MainSteps as main_steps
 use Rattle.zir_parse.proofs.components.with_value.Goals as goal
 
 pub returns-in_err-value-clause-read : goal.returns-in_err-value-clause-read

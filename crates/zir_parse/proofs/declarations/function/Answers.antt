@@ -1,14 +1,5 @@
-use Rattle.std.proofs.Common.{◌≡◌, ◌+◌, ◌≤◌, ◌<◌, ◌-◌, ℕ, suc, max, List, [], ◌∷◌, ◌++◌, sym, refl, ap, ◌∙◌, rules, arith}
-use Rattle.std.proofs.lemmas.Result.{err_from_is_err_and}
-use Rattle.zir_tree.specs.declared.comp.Comp as comp
-use Rattle.zir_tree.specs.declared.comp.Member as member
-use Rattle.zir_tree.specs.declared.program.Decl.TheVariants as decl
-use Rattle.zir_lex.specs.declared.token.Symbol.TheVariants as symbol
-use Rattle.zir_grammar.specs.Grammar.{ident}
-use Rattle.zir_grammar.specs.Wants.{a_sign}
-use Rattle.zir_grammar.specs.Parts.{gives, reads, wants_sign, a_block, a_chain, more_members, behind_semicolon, behind_main, joined_height}
 use Rattle.zir_grammar.specs.Machine.{run}
-use Rattle.zir_grammar.proofs.Descent.{stop_leads, leads_on, fits, refused}
+use Rattle.zir_grammar.proofs.Descent.{leads_on}
 use Rattle.zir_parse.proofs.ProgramSteps.{comp_begins, function_begins}
 use Rattle.zir_parse.proofs.declarations.function.Goals as goal
 

@@ -1,17 +1,15 @@
-use Rattle.std.proofs.Common.{◌≡◌, ◌+◌, ◌≤◌, ℕ, suc, max, List, [], ◌∷◌, ◌++◌, sym, ap, ◌∙◌, rules, arith}
+use Rattle.std.proofs.Common.{ℕ, List, sym, ap, ◌∙◌, arith}
 use Rattle.std.proofs.lemmas.Result.{err_from_is_err_and}
 use Rattle.zir_tree.specs.declared.place.Place.{Place}
 use Rattle.zir_tree.specs.declared.program.Decl.{Decl}
 use Rattle.zir_tree.specs.declared.program.Decl.TheVariants as decl
 use Rattle.zir_tree.specs.declared.program.Prog.{Prog}
 use Rattle.zir_lex.specs.declared.token.Symbol.TheVariants as symbol
-use Rattle.zir_grammar.specs.declared.enclosure.Enclosure.TheVariants.{Braces}
 use Rattle.zir_grammar.specs.Grammar.{ident}
-use Rattle.zir_grammar.specs.Parts.{Rest, reads, wants_sign, a_field, more_fields, some_params, a_result, a_body, a_block, more_decls}
+use Rattle.zir_grammar.specs.Parts.{Rest, reads, wants_sign, some_params, a_result, a_body}
 use Rattle.zir_grammar.specs.Machine.{run}
-use Rattle.zir_grammar.proofs.Descent.{stop_leads, leads_on, fits}
-use Rattle.zir_parse.proofs.HeadSteps.{declared_taken, declared_all, next_decl}
-use Rattle.zir_parse.proofs.ProgramSteps.{decl_room, part_room, comp_begins, function_begins, no_result, result_begins}
+use Rattle.zir_grammar.proofs.Descent.{stop_leads, fits}
+use Rattle.zir_parse.proofs.ProgramSteps.{part_room}
 use Rattle.zir_tree.specs.declared.types.Field.{Field}
 use Rattle.zir_tree.specs.declared.types.TypeExpr.{TypeExpr}
 use Rattle.zir_tree.specs.declared.stmt.Body.{Body}

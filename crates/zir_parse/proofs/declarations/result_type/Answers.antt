@@ -1,17 +1,7 @@
-use Rattle.std.proofs.Common.{◌≡◌, ◌+◌, ◌≤◌, ℕ, suc, max, List, [], ◌∷◌, ◌++◌, sym, ap, ◌∙◌, rules, arith}
+use Rattle.std.proofs.Common.{◌∙◌}
 use Rattle.std.proofs.lemmas.Result.{err_from_is_err_and}
-use Rattle.zir_tree.specs.declared.place.Place.{Place}
-use Rattle.zir_tree.specs.declared.program.Decl.{Decl}
-use Rattle.zir_tree.specs.declared.program.Decl.TheVariants as decl
-use Rattle.zir_tree.specs.declared.program.Prog.{Prog}
-use Rattle.zir_lex.specs.declared.token.Symbol.TheVariants as symbol
-use Rattle.zir_grammar.specs.declared.enclosure.Enclosure.TheVariants.{Braces}
-use Rattle.zir_grammar.specs.Grammar.{ident}
-use Rattle.zir_grammar.specs.Parts.{Rest, reads, wants_sign, a_field, more_fields, some_params, a_result, a_body, a_block, more_decls}
-use Rattle.zir_grammar.specs.Machine.{run}
-use Rattle.zir_grammar.proofs.Descent.{stop_leads, leads_on, fits}
-use Rattle.zir_parse.proofs.HeadSteps.{declared_taken, declared_all, next_decl}
-use Rattle.zir_parse.proofs.ProgramSteps.{decl_room, part_room, comp_begins, function_begins, no_result, result_begins}
+use Rattle.zir_grammar.proofs.Descent.{stop_leads}
+use Rattle.zir_parse.proofs.ProgramSteps.{no_result, result_begins}
 use Rattle.std.proofs.Common.{Some}
 use Rattle.zir_parse.proofs.declarations.result_type.Goals as goal
 

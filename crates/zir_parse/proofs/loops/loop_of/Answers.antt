@@ -1,4 +1,4 @@
-use Rattle.std.proofs.Common.{◌≡◌, refl}
+use Rattle.std.proofs.Common.{refl}
 use Rattle.zir_parse.proofs.loops.loop_of.Goals as goal
 
 pub returns-in-Repeat : goal.returns-in-Repeat

@@ -1,4 +1,4 @@
-use Rattle.std.proofs.Common.{◌≡◌, ◌+◌, ◌≤◌, ℕ, suc, max, None, Some, true, false, ap, ◌∙◌, rules, arith}
+use Rattle.std.proofs.Common.{◌≡◌, ◌+◌, suc, max, None, Some, true, false, ap, ◌∙◌, rules, arith}
 use Rattle.std.proofs.lemmas.Result.{err_from_is_err_and}
 use Rattle.zir_grammar.specs.Machine.{run}
 use Rattle.zir_grammar.proofs.Descent.{stop_leads}
@@ -50,10 +50,10 @@ loop-ended-preserved c =
     let not_yet : c.loop-ended.ended ≡ false = search rules in
     record {
       read = λ most k has. rw (c.in_ok-before.ensures, c.in_ok-behind.ensures, up)
-    (c.loop-ended.invariant.read most k has
-    ∙ ap (λ b. run most (behind_so_far b c.loop-ended.left c.loop-ended.height k) c.loop-ended.rest.now) not_yet
-    ∙ parallel_fits most c.args.room c.loop-ended.left c.loop-ended.height k c.loop-ended.rest.now c.in-Some.at c.in-Some.after.now c.in-Some.ensures.found has c.loop-ended.invariant.low c.if-height-room.false
-    ∙ c.in_ok-right.ensures.read most (Some (c.loop-ended.left, c.loop-ended.height, c.in-Some.at)) k (parallel_room most c.args.room c.loop-ended.left c.loop-ended.height c.in-Some.at k has c.if-height-room.false));
+          (c.loop-ended.invariant.read most k has
+          ∙ ap (λ b. run most (behind_so_far b c.loop-ended.left c.loop-ended.height k) c.loop-ended.rest.now) not_yet
+          ∙ parallel_fits most c.args.room c.loop-ended.left c.loop-ended.height k c.loop-ended.rest.now c.in-Some.at c.in-Some.after.now c.in-Some.ensures.found has c.loop-ended.invariant.low c.if-height-room.false
+          ∙ c.in_ok-right.ensures.read most (Some (c.loop-ended.left, c.loop-ended.height, c.in-Some.at)) k (parallel_room most c.args.room c.loop-ended.left c.loop-ended.height c.in-Some.at k has c.if-height-room.false));
       low = omega arith;
       high = omega (arith, up, c.in_ok-right.ensures.high, c.if-height-room.false);
       ends = c.in_ok-right.ensures.ends;

@@ -1,13 +1,7 @@
-use Rattle.std.proofs.Common.{◌≡◌, ◌+◌, ◌≤◌, ◌<◌, ◌-◌, ℕ, suc, max, List, [], ◌∷◌, ◌++◌, sym, refl, ap, ◌∙◌, rules, arith}
+use Rattle.std.proofs.Common.{◌∙◌}
 use Rattle.std.proofs.lemmas.Result.{err_from_is_err_and}
-use Rattle.zir_tree.specs.declared.comp.Comp as comp
-use Rattle.zir_tree.specs.declared.comp.Member as member
-use Rattle.zir_lex.specs.declared.token.Symbol.TheVariants as symbol
-use Rattle.zir_grammar.specs.Grammar.{ident}
-use Rattle.zir_grammar.specs.Wants.{a_sign}
-use Rattle.zir_grammar.specs.Parts.{gives, reads, wants_sign, a_block, a_chain, more_members, behind_semicolon, behind_main}
-use Rattle.zir_grammar.specs.Machine.{run}
-use Rattle.zir_grammar.proofs.Descent.{stop_leads, leads_on, fits, refused}
+use Rattle.zir_grammar.specs.Parts.{reads, behind_semicolon}
+use Rattle.zir_grammar.proofs.Descent.{stop_leads}
 use Rattle.zir_parse.proofs.MemberSteps.{closed_first, not_closed, closed_then, goes_on}
 use Rattle.zir_parse.proofs.members.ended.Goals as goal
 
