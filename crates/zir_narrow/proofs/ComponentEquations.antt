@@ -25,7 +25,3 @@ component-Pipe any link c d at = refl
 pub component-Block : (any : Bool) (ms : List Member) (at : Place) →
     component any (Block ms at) ≡ and_then (each any [] ms) (λ made. Fine (bit_comp.Block made at))
 component-Block any ms at = ap (λ w. and_then w (λ made. Fine (bit_comp.Block made at))) (members-list any [] ms)
-
--- a block as the body of a loop is that block
-pub body-Block : (any : Bool) (ms : List Member) (at : Place) → body any (Block ms at) ≡ component any (Block ms at)
-body-Block any ms at = refl

@@ -35,11 +35,6 @@ gathered-more : (made : List bit_member.Member) (y : bit_member.Member) (walk : 
 gathered-more made y (Fine ys) = ap Fine (sym (append_assoc made (y ∷ []) ys))
 gathered-more made y (Stuck at) = refl
 
--- nothing is made yet
-pub gathered-none : (walk : Narrow (List bit_member.Member)) → walk ≡ gathered [] walk
-gathered-none (Fine ys) = refl
-gathered-none (Stuck at) = refl
-
 -- a row of a list ends where the list does
 is_end-list : (ms : List Member) → is_end (hidden-the_row-Member-1 ms) ≡ no_more ms
 unfolding shape-the_row-Member-1 hidden-the_row-Member-1 hidden

@@ -44,9 +44,9 @@ impl<T: Drop> From<AllocFailed<T>> for NarrowError {
     }
 }
 
-/// The program over bits that a program is; `Unbuilt` exactly where it is none, at the place of the first form of the text that
-/// is none. Where `any` is set names are not resolved, and any name may stand; else only one that a `take` before it in
-/// its block binds.
+/// The program over bits that a program is; `Unbuilt` exactly where it is none, at the place of the first form of the
+/// text that is none. Where `any` is set names are not resolved, and any name may stand; else only one that a `take`
+/// before it in its block binds. `Memory` comes where memory runs out.
 pub fn narrow_program(alloc: Global, any: bool, p: &Prog) -> Result<bits::Prog, NarrowError>
     ensures { Told (narrow any p.now) result }
 {

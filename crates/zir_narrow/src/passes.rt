@@ -15,8 +15,9 @@ use zir_names::{NameError, resolve};
 use zir_tree::program::Prog;
 use zir_tree::refusal::Refusal;
 
-/// The program over bits that a program is, and that runs. Else the refusal is `Unbuilt` at the first form of the text that nothing
-/// runs yet; else that of the first name that is wrong; else `NotUnit` or `TwoComputers` at the first component that is.
+/// The program over bits that a program is, and that runs. Else the refusal is `Unbuilt` at the first form of the text
+/// that nothing runs yet; else that of the first name that is wrong; else `NotUnit` or `TwoComputers` at the first
+/// component that is. `Memory` comes where memory runs out.
 pub fn judge(alloc: Global, p: Prog) -> Result<bits::Prog, Refusal>
     ensures tells { Tells (judged p) result }
     ensures bits { IfOk result (λ program. EmitsBits program.main) }
