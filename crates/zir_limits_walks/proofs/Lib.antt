@@ -1,0 +1,9 @@
+pub mod Calling
+pub mod ComponentEquations
+pub mod DepthLaws
+pub mod Firsts
+pub mod Joining
+pub mod Needing
+pub mod Steps
+pub mod Visiting
+pub mod Whole
