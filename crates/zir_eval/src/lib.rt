@@ -1,0 +1,6 @@
+//! Evaluation over an opened program: expressions and statements by their code, and single variables, without memory.
+#![tactic(auto)]
+
+pub mod evaluation;
+pub mod opening;
+pub mod variables;
