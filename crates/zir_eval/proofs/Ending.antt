@@ -1,5 +1,5 @@
 -- How runs of code end, against what the code means.
-use Rattle.std.specs.Prelude.{ℕ, ℤ, ◌+◌, ◌≤◌, List, Bool, true, false, Option, Some, None, Result, Ok, Err, ◌≡◌, nat_lt, ◌&&◌, ◌^◌}
+use Rattle.std.specs.Prelude.{ℕ, ◌+◌, ◌≤◌, List, Bool, true, false, Some, None, Ok, Err, ◌≡◌, nat_lt, ◌&&◌, ◌^◌}
 use Rattle.std.proofs.Common.{ap, sym, subst, ◌∙◌, arith}
 use Rattle.zir_tree.specs.declared.types.Base.{Base}
 use Rattle.zir_tree.specs.declared.ends.Trap.{Trap}
@@ -17,7 +17,7 @@ use Rattle.zir_code.specs.Scopes.{Scope}
 use Rattle.zir_code.specs.Coding.{stands, code_of, room_of}
 use Rattle.zir_code.specs.Typing.{Has}
 use Rattle.zir_code.specs.Forms.{is_coded}
-use Rattle.zir_code.specs.Holding.{Holds, Kept, Agrees}
+use Rattle.zir_code.specs.Holding.{Holds, Agrees}
 use Rattle.zir_code.specs.Statements.{AgreesStmt}
 use Rattle.zir_code.specs.Bodies.{all_code, scope_after_all, free_after_all, FineAll}
 use Rattle.zir_code.specs.Calls.{Calls}
@@ -27,9 +27,8 @@ use Rattle.zir_code.proofs.Kept.{kept_holds}
 use Rattle.zir_compile.specs.declared.expressions.Made.{Made}
 use Rattle.zir_compile.specs.declared.statements.Written.{Written}
 use Rattle.zir_compile.specs.Made.{made_if, code_if, written_if, written, are_written}
-use Rattle.zir_eval.specs.declared.evaluation.Stop.{Stop}
 use Rattle.zir_eval.specs.declared.evaluation.Stop.TheVariants.{Trap as ByTrap, Spent}
-use Rattle.zir_eval.specs.Ends.{ValuedAs, StoppedAs, Evaluated, Evaluates, CameTo, HaltedAs, Executed, Executes}
+use Rattle.zir_eval.specs.Ends.{ValuedAs, StoppedAs, Evaluates, CameTo, HaltedAs, Executes}
 
 -- what code was made
 made_when : (b : Bool) (g : Scope) (e : Expr) (d : ℕ) (made : Made) → Some made ≡ made_if b g e d → made ≡ record { steps = code_of g e d; at = stands g e d }

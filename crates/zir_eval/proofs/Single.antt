@@ -5,19 +5,18 @@ use Rattle.zir_tree.specs.declared.types.Base.{Base}
 use Rattle.zir_tree.specs.declared.types.Base.TheVariants.{Bit as BitTy, Bool as BoolTy}
 use Rattle.zir_tree.specs.declared.value.Val.{Val, Num}
 use Rattle.zir_meaning.specs.Store.{look_up}
-use Rattle.zir_meaning.specs.Trace.{State}
 use Rattle.zir_meaning.specs.Statements.{assign}
 use Rattle.zir_cells.specs.Cells.{cells_of}
 use Rattle.zir_expr.specs.declared.frame.Spot.{Spot}
 use Rattle.zir_expr.specs.declared.frame.Spot.TheVariants.{Local}
-use Rattle.zir_expr.specs.declared.steps.Step.{Step, Copy}
+use Rattle.zir_expr.specs.declared.steps.Step.{Copy}
 use Rattle.zir_expr.specs.Memory.{cell_at, put_cell, place_of}
 use Rattle.zir_expr.specs.Memory.Frames.{Memory}
 use Rattle.zir_code.specs.declared.scope.Holder.{Holder}
 use Rattle.zir_code.specs.Scopes.{Scope, variable}
 use Rattle.zir_code.specs.Typing.{IsScalar}
 use Rattle.zir_code.specs.Holding.{At, IsCell, HasForm, Holds}
-use Rattle.zir_code.specs.Statements.{to_variable, SoleIn}
+use Rattle.zir_code.specs.Statements.{to_variable}
 use Rattle.zir_code.proofs.Kept.{variable_found}
 use Rattle.zir_code.proofs.Operating.{whole_cases}
 use Rattle.zir_code.proofs.Stores.{assigned_holds}

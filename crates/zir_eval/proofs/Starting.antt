@@ -1,5 +1,5 @@
--- What holds where a program was opened.
-use Rattle.std.specs.Prelude.{ℕ, suc, ℤ, pos, ◌+◌, ◌<◌, ◌≤◌, ◌^◌, List, [], ◌∷◌, Bool, true, false, ◌&&◌, Option, Some, None, ◌≡◌, nat_lt, length, slice_index_or, refl}
+-- What holds at the top of a program.
+use Rattle.std.specs.Prelude.{ℕ, suc, ℤ, pos, ◌+◌, ◌<◌, ◌≤◌, ◌^◌, List, [], ◌∷◌, Bool, true, false, ◌&&◌, ◌≡◌, nat_lt, length, slice_index_or, refl}
 use Rattle.std.specs.List.{list_all}
 use Rattle.std.proofs.Common.{ap, sym, subst, inl, inr, ◌∙◌, arith}
 use Rattle.std.proofs.lemmas.Bool.Decides.{nat_tests}
@@ -11,12 +11,10 @@ use Rattle.zir_tree.specs.declared.value.Val.{Val}
 use Rattle.zir_tree.specs.declared.program.Core.{Core}
 use Rattle.zir_meaning.specs.Values.{type_of, blank, blank_base, blanks_of}
 use Rattle.zir_meaning.specs.Functions.{library_of}
-use Rattle.zir_expr.specs.Memory.{cell_at}
+use Rattle.zir_expr.specs.Memory.Frames.{Memory}
 use Rattle.zir_cells.specs.Cells.{cells_of}
 use Rattle.zir_code.specs.declared.scope.Holder.{Holder}
-use Rattle.zir_code.specs.Scopes.{Scope}
 use Rattle.zir_code.specs.Typing.{IsScalar}
-use Rattle.zir_code.specs.Forms.{is_scalar, is_one_cell}
 use Rattle.zir_code.specs.Holding.{At, IsCell, HasForm, Hold, InOrder, Holds}
 use Rattle.zir_code.specs.Calls.{AllTop, Calls}
 use Rattle.zir_code.proofs.Stores.{not_unit, cells_is, form_is}
@@ -24,9 +22,7 @@ use Rattle.zir_code.proofs.Program.{functions_agree}
 use Rattle.zir_compile.specs.Signing.{no_signature, signatures_of, FineAfter}
 use Rattle.zir_compile.proofs.Equations.{and_first, and_second}
 use Rattle.zir_compile.proofs.Typed.{one_cell_is, all_signed}
-use Rattle.zir_compile.specs.Names.{scope_of}
-use Rattle.zir_eval.specs.declared.opening.Opened.{Opened}
-use Rattle.zir_eval.specs.Opening.{has_one_cell, top_holders, can_open, program_scope, IsOpened, blank_slots, blank_start}
+use Rattle.zir_eval.specs.Opening.{has_one_cell, top_holders, can_open, program_scope, IsBlank, blank_slots, blank_start}
 
 -- the blank value of a scalar is a cell of 0
 blank_is : (blanks : List Val) (t : Base) → IsScalar t → IsCell t (blank_base blanks t) (pos 0)
@@ -80,15 +76,15 @@ all_top i (v ∷ vs) = (tt, all_top (i + 1) vs)
 small_of : (a b : ℕ) (x : Bool) → nat_lt a b && x ≡ true → nat_lt a b ≡ true
 small_of a b x h = and_first (nat_lt a b) x h
 
--- the frame of an opened program
-pub holds_blanks : (core : Core) (room limit : ℕ) (o : Opened) → IsOpened core room limit o →
-    Holds (length core.variables) (length core.variables) 0 room (scope_of o.names) o.frame (blank_start core limit)
-holds_blanks core room limit o h =
+-- a new frame of a program
+pub holds_blanks : (core : Core) (room limit : ℕ) (m : Memory) → room < 2 ^ 32 → can_open core ≡ true → IsBlank core room limit m →
+    Holds (length core.variables) (length core.variables) 0 room (program_scope core) m (blank_start core limit)
+holds_blanks core room limit m few can h =
     let top = length core.variables in
-    let size : length o.frame.cells ≡ top + room = h.size in
-    let fit : top + room < 2 ^ 32 = grind (arith, nat_tests, small_of (top + room) (2 ^ 32) (list_all has_one_cell core.variables) h.can) in
-    subst (λ (g : Scope). Holds top top 0 room g o.frame (blank_start core limit)) (sym h.scope) (record {
-      tops = hold_blanks o.frame.cells top 0 (blanks_of core.structs) core.variables h.zero (omega arith) (and_second (nat_lt (top + room) (2 ^ 32)) _ h.can);
+    let lt : top < 2 ^ 32 = grind (arith, nat_tests, small_of top (2 ^ 32) (list_all has_one_cell core.variables) can) in
+    let size : length m.cells ≡ top + room = h.size lt in
+    record {
+      tops = hold_blanks m.cells top 0 (blanks_of core.structs) core.variables h.zero (omega arith) (and_second (nat_lt top (2 ^ 32)) _ can);
       locals = tt;
       tops_in = subst (λ high. InOrder top 0 high (top_holders 0 core.variables)) (let e : 0 + top ≡ top = omega arith in e) (order_tops top 0 core.variables);
       locals_in = omega arith;
@@ -97,13 +93,11 @@ holds_blanks core room limit o h =
       apart = omega arith;
       room = omega arith;
       small = omega arith;
-    })
+    }
 
--- the functions of an opened program
-pub calls_opened : (core : Core) (room limit : ℕ) (o : Opened) → IsOpened core room limit o → FineAfter (top_holders 0 core.variables) no_signature 0 core.functions →
-    Calls (length core.variables) (library_of core.structs core.functions) (scope_of o.names).tops (scope_of o.names).funs
-calls_opened core room limit o h fine =
+-- the functions of a program
+pub calls_mean : (core : Core) → FineAfter (top_holders 0 core.variables) no_signature 0 core.functions →
+    Calls (length core.variables) (library_of core.structs core.functions) (program_scope core).tops (program_scope core).funs
+calls_mean core fine =
     let tops : List Holder = top_holders 0 core.variables in
-    let all = functions_agree (length core.variables) (blanks_of core.structs) tops core.functions (signatures_of tops core.functions) (all_top 0 core.variables)
-    (all_signed core.functions tops no_signature 0 fine) in
-    subst (λ (g : Scope). Calls (length core.variables) (library_of core.structs core.functions) g.tops g.funs) (sym h.scope) all
+    functions_agree (length core.variables) (blanks_of core.structs) tops core.functions (signatures_of tops core.functions) (all_top 0 core.variables) (all_signed core.functions tops no_signature 0 fine)

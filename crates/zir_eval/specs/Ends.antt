@@ -1,5 +1,5 @@
 -- What it is for an evaluation by code to end as its meaning does.
-use Rattle.std.specs.Prelude.{ℕ, ℤ, ◌+◌, ◌≤◌, List, [], ◌∷◌, Bool, true, false, Option, Some, None, Result, Ok, Err, ◌≡◌}
+use Rattle.std.specs.Prelude.{ℕ, ℤ, ◌+◌, ◌≤◌, List, [], Bool, true, false, Option, Some, None, Result, Ok, Err, ◌≡◌}
 use Rattle.zir_tree.specs.declared.types.Base.{Base}
 use Rattle.zir_tree.specs.declared.value.Val.{Val}
 use Rattle.zir_tree.specs.declared.expr.Expr.{Expr}
@@ -8,7 +8,6 @@ use Rattle.zir_meaning.specs.Store.{look_up}
 use Rattle.zir_meaning.specs.Trace.{State}
 use Rattle.zir_meaning.specs.Evaluation.{Eval, Got, Traps, RunsOut, Library, ev}
 use Rattle.zir_meaning.specs.Statements.{does_all, assign}
-use Rattle.zir_expr.specs.Memory.{cell_at, place_of}
 use Rattle.zir_expr.specs.Memory.Frames.{Memory}
 use Rattle.zir_code.specs.declared.scope.Holder.{Holder}
 use Rattle.zir_code.specs.Scopes.{Scope, variable}

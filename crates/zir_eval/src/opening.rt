@@ -1,9 +1,9 @@
-// Opened programs: what is in scope at their top, and all cells of a run.
+// What is in scope at the top of a program, and all cells of a run.
 
 ghost use Rattle.std.specs.Prelude.{◌≡◌, ◌<◌, ◌^◌, length, IfOk};
 ghost use Rattle.std.specs.List.{list_all};
 ghost use Rattle.zir_eval.specs.Opening as opening;
-ghost use Rattle.zir_eval.specs.Laws.{OpenedHold, OpenedCall};
+ghost use Rattle.zir_eval.specs.Laws.{BlankFramesHold, FunctionsMean};
 
 use sqlite_items::Items;
 use std::alloc::{AllocError, Global};
@@ -13,13 +13,6 @@ use zir_compile::statements::{has_one_cell, type_of};
 use zir_expr::frame::{Frame, Spot};
 use zir_tree::program::Core;
 use zir_tree::stmt::Var;
-
-/// An opened program: the top variables and the functions with their code, and all cells of a run.
-#[derive(Drop)]
-pub struct Opened {
-    pub names: Names,
-    pub frame: Frame,
-}
 
 /// Whether each variable has one cell.
 fn have_one_cell(variables: &[Var]) -> bool
@@ -52,38 +45,41 @@ fn holders(alloc: Global, variables: &[Var]) -> Result<Items<Holder>, AllocError
     Ok(made)
 }
 
-impl Opened {
-    /// Opens a program with all cells for its top variables and so many more for a body, and with so many ticks. There is none where a top
-    /// variable has not one cell, or where 32 bits do not count all cells.
-    pub fn open(
-        alloc: Global,
-        core: &Core,
-        room: u32,
-        limit: u64,
-    ) -> Result<Option<Opened>, AllocError>
-        ensures { IfOk result (opening.OpenedAs core.now room limit) }
-    {
-        let variables = core.variables.as_slice();
-        let cells = variables.len().saturating_add(room as usize);
-        if cells > u32::MAX as usize {
-            return Ok(None);
-        }
-        if !have_one_cell(variables) {
-            return Ok(None);
-        }
-        let tops = holders(alloc, variables)?;
-        let names = Names::of_functions(alloc, tops, core.functions.as_slice())?;
-        let frame = Frame::open(alloc, cells, limit)?;
-        Ok(Some(Opened { names, frame }))
+/// What is in scope at the top of a program, with the code of its functions. There is nothing where a top variable has not one cell, or where
+/// 32 bits do not count the top variables.
+pub fn names_of(alloc: Global, core: &Core) -> Result<Option<Names>, AllocError>
+    ensures { IfOk result (opening.NamedAs core.now) }
+{
+    let variables = core.variables.as_slice();
+    if variables.len() > u32::MAX as usize {
+        return Ok(None);
     }
+    if !have_one_cell(variables) {
+        return Ok(None);
+    }
+    let tops = holders(alloc, variables)?;
+    let names = Names::of_functions(alloc, tops, core.functions.as_slice())?;
+    Ok(Some(names))
 }
 
-/// The frame of an opened program holds the blank value of each top variable.
-pub fn opened_hold()
-    ensures { OpenedHold }
+/// All cells of a run of a program: those of its top variables, and so many more for the code of a body, which begins behind them. All are 0.
+pub fn frame_of(alloc: Global, core: &Core, room: u32, limit: u64) -> Result<Frame, AllocError>
+    ensures { IfOk result (opening.IsBlank core.now room limit) }
+{
+    let cells = core
+        .variables
+        .as_slice()
+        .len()
+        .saturating_add(room as usize);
+    Frame::open(alloc, cells, limit)
+}
+
+/// A new frame of a program holds the blank value of each top variable.
+pub fn blank_frames_hold()
+    ensures { BlankFramesHold }
 {}
 
-/// The functions of an opened program do what they mean, where each is well typed in the cells of its signature.
-pub fn opened_call()
-    ensures { OpenedCall }
+/// The functions of a program do what they mean, where each is well typed in the cells of its signature.
+pub fn functions_mean()
+    ensures { FunctionsMean }
 {}
