@@ -3,4 +3,6 @@
 
 pub mod evaluation;
 pub mod opening;
+#[cfg(test)]
+mod tests;
 pub mod variables;
