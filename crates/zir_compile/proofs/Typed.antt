@@ -37,7 +37,7 @@ scalar_is (StructTy k) h = absurd (no h) where
   no : false ≡ true → ⊥
   no e = cc
 
-one_cell_is : (ls : List ℕ) (t : Base) → is_one_cell ls t ≡ true → (ls ≡ []) × IsScalar t
+pub one_cell_is : (ls : List ℕ) (t : Base) → is_one_cell ls t ≡ true → (ls ≡ []) × IsScalar t
 one_cell_is [] t h = (refl, scalar_is t h)
 one_cell_is (n ∷ ls) t h = absurd (no h) where
   no : false ≡ true → ⊥

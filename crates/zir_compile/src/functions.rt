@@ -8,9 +8,8 @@ ghost use Rattle.zir_compile.specs.Growing.{Moved};
 ghost use Rattle.zir_compile.specs.Names.{scope_of};
 ghost use Rattle.zir_compile.specs.Signing as signing;
 
-use crate::operators::is_scalar_base;
 use crate::scope::Names;
-use crate::statements::type_of;
+use crate::statements::{has_one_cell, type_of};
 use sqlite_items::Items;
 use std::alloc::{AllocError, Global};
 use zir_code::scope::{Holder, Signature};
@@ -21,22 +20,12 @@ use zir_tree::program::Function;
 use zir_tree::stmt::{Body, Return};
 use zir_tree::types::{Base, Field, TypeExpr};
 
-/// Whether a parameter has one cell.
-fn has_one_cell(p: &Field) -> bool
-    ensures { result ≡ signing.has_one_cell p.now }
-{
-    match p.ty.dimensions.as_slice() {
-        [] => is_scalar_base(p.ty.base),
-        [_, ..] => false,
-    }
-}
-
 /// Whether each parameter has one cell.
 fn have_one_cell(params: &[Field]) -> bool
     ensures { result ≡ list_all signing.has_one_cell params.now }
 {
     for p in params {
-        if !has_one_cell(p) {
+        if !has_one_cell(&p.ty) {
             return false;
         }
     }

@@ -3,9 +3,9 @@
 
 pub mod expressions;
 pub mod functions;
-mod needs;
+pub mod needs;
 mod operators;
-mod rooms;
+pub mod rooms;
 pub mod scope;
 pub mod statements;
 

@@ -91,9 +91,9 @@ impl Names {
         }
     }
 
-    /// The cells of statements one after the other.
+    /// How many cells there must be for the code of statements, where those from d on are free; numbers above 2^64 - 1 count as that.
     #[cycle(needs)]
-    pub(crate) fn needs(&self, statements: &[Stmt], d: u64) -> u64
+    pub fn needs(&self, statements: &[Stmt], d: u64) -> u64
         ensures { result ≡ capped (cells.all_needs (scope_of self.now) d statements.now) }
     {
         let mut most = 0u64;

@@ -2,12 +2,13 @@
 
 ghost use Rattle.std.specs.Prelude.{◌≡◌, [], ◌∷◌, ◌++◌, Some, IfOk, OnOk};
 ghost use Rattle.zir_meaning.specs.Values as values;
+ghost use Rattle.zir_code.specs.Forms as forms;
 ghost use Rattle.zir_code.specs.Scopes.{variable};
 ghost use Rattle.zir_compile.specs.Growing.{Valued, Started, Targets, Ranged, Chosen, Turned, Counted, Stated, Blocked, Rowed, Moved, Same, index_of};
 ghost use Rattle.zir_compile.specs.Made.{written, scope_behind};
 ghost use Rattle.zir_compile.specs.Names.{scope_of};
 
-use crate::operators::is_scalar;
+use crate::operators::{is_scalar, is_scalar_base};
 use crate::scope::Names;
 use sqlite_items::Items;
 use std::alloc::{AllocError, Global};
@@ -29,8 +30,18 @@ pub struct Written {
 /// Trap 5: a statement `error`.
 const ERROR: u8 = 5;
 
+/// Whether a value of a written type has one cell.
+pub fn has_one_cell(ty: &TypeExpr) -> bool
+    ensures { result ≡ forms.is_one_cell (values.type_of ty.now).lengths ty.now.base }
+{
+    match ty.dimensions.as_slice() {
+        [] => is_scalar_base(ty.base),
+        [_, ..] => false,
+    }
+}
+
 /// A type as it is written.
-pub(crate) fn type_of(alloc: Global, ty: &TypeExpr) -> Result<Ty, AllocError>
+pub fn type_of(alloc: Global, ty: &TypeExpr) -> Result<Ty, AllocError>
     ensures { IfOk result (λ made. made ≡ values.type_of ty.now) }
 {
     let mut lengths = Items::new(alloc);
@@ -139,10 +150,10 @@ impl Names {
         ensures moved { OnOk result (Moved self.old self.new) }
         ensures code { IfOk result (Stated (scope_of self.old) (Stmt.Var v.now) d steps.old.items steps.new.items (scope_of self.new)) }
     {
-        let ty = type_of(alloc, &v.ty)?;
-        if !is_scalar(&ty) {
+        if !has_one_cell(&v.ty) {
             return Ok(None);
         }
+        let ty = type_of(alloc, &v.ty)?;
         if !self.initial(alloc, &v.initial, d, steps)? {
             return Ok(None);
         }

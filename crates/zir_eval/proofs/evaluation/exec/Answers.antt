@@ -1,0 +1,20 @@
+use Rattle.std.proofs.Common.{Err, sym, subst}
+use Rattle.zir_tree.specs.declared.ends.Trap.{Trap}
+use Rattle.zir_eval.specs.declared.evaluation.Stop.TheVariants.{Trap as ByTrap}
+use Rattle.zir_eval.specs.Ends.{Executes}
+use Rattle.zir_eval.proofs.Ending.{executes_done, executes_trapped, executes_spent}
+use Rattle.zir_eval.proofs.evaluation.exec.Goals as goal
+
+pub returns-in-Ok : goal.returns-in-Ok
+returns-in-Ok c = let ran = rw c.as_slice.ensures at c.in-Ok.ensures in executes_done c.args.written.now c.args.base c.args.frame.now c.run.new.frame ran
+
+pub returns-in-Err-Trap : goal.returns-in-Err-Trap
+returns-in-Err-Trap c =
+    let ran = rw (c.as_slice.ensures, c.in-Err-Trap.field-0-is) at c.in-Err-Trap.ensures in
+    subst (λ (w : Trap). Executes c.args.written.now c.args.base c.args.frame.now (Err (ByTrap w)) c.run.new.frame) (sym c.trap.ensures)
+    (executes_trapped c.args.written.now c.args.base c.args.frame.now c.run.new.frame c.run.new.frame.trap ran)
+
+pub returns-in-Err-Spent : goal.returns-in-Err-Spent
+returns-in-Err-Spent c =
+    let ran = rw (c.as_slice.ensures, c.in-Err-Spent.field-0-is) at c.in-Err-Spent.ensures in
+    executes_spent c.args.written.now c.args.base c.args.frame.now c.run.new.frame ran

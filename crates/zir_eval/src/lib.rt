@@ -1,0 +1,8 @@
+//! Evaluation over an opened program: expressions and statements by their code, and single variables, without memory.
+#![tactic(auto)]
+
+pub mod evaluation;
+pub mod opening;
+#[cfg(test)]
+mod tests;
+pub mod variables;
