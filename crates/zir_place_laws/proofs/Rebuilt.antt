@@ -1,5 +1,5 @@
 -- Each form is spelled by its tokens at any other places, and is the same then, places apart.
-use Rattle.std.proofs.Common.{◌≡◌, ℕ, pos, Bool, true, false, zero, suc, max, List, [], ◌∷◌, ◌++◌, Option, Some, None, refl, sym, ap, ap₂, ◌∙◌, subst}
+use Rattle.std.proofs.Common.{◌≡◌, ℕ, pos, true, false, suc, List, [], ◌∷◌, ◌++◌, Option, Some, None, refl, sym, ap, ap₂, ◌∙◌, subst}
 use Rattle.std.specs.Prelude.{map}
 use Rattle.zir_tree.specs.declared.place.Place.{Place}
 use Rattle.zir_tree.specs.declared.ident.Ident.{Ident}
@@ -28,7 +28,7 @@ use Rattle.zir_tree.specs.declared.program.Prog.{Prog}
 use Rattle.zir_lex.specs.declared.token.Token.{Token}
 use Rattle.zir_lex.specs.declared.token.Lexeme.{Lexeme}
 use Rattle.zir_lex.specs.declared.token.Symbol.{Symbol}
-use Rattle.zir_grammar.specs.Grammar.{ident, field, plain_type, struct_type, array_type, ranks, prefix_token, IsType, type_word, type_name, type_array, IsField, typed_name, IsMoreFields, last_field, more_fields, IsParams, no_params, params, IsBinary, unary, operands, IsOperands, no_operand, operand, IsUnary, prefixed, primary, IsPosts, no_post, index, slice, part, IsPrimary, number, bit_value, true_value, false_value, unit_value, variable, call, enclosed, array, convert, complex, IsArgs, no_args, args, IsMoreExprs, last_expr, more_exprs, plain_var, set_var, IsVar, var_alone, var_set, IsBounds, bounds, IsTarget, target, target_index, target_slice, target_part, IsStmt, declares, assigns, calls, errors, tests, chooses, turns, counts, IsStmts, stmts, IsMoreStmts, no_stmt, last_stmt, more_stmts, plain_body, result_body, IsMoreBody, no_more, ends, goes_on, returns, returns_stopped, IsBody, body, IsAtom, take_atom, takes_atom, emit_atom, emits_atom, return_atom, do_atom, repeat_atom, hinted_atom, while_atom, until_atom, times_atom, for_atom, if_atom, map_atom, filter_atom, call_atom, block_atom, enclosed_atom, IsChain, atom, links, IsLinks, no_link, join, IsBlock, block, IsMembers, binds, member_var, member_runs, last_member, last_stopped, IsResult, no_result, result, IsDecl, declares_var, declares_struct, declares_function, declares_comp, IsDecls, no_decl, more_decls, IsProg, program}
+use Rattle.zir_grammar.specs.Grammar.{ident, field, plain_type, struct_type, array_type, prefix_token, IsType, type_word, type_name, type_array, IsField, typed_name, IsMoreFields, last_field, more_fields, IsParams, no_params, params, IsBinary, unary, operands, IsOperands, no_operand, operand, IsUnary, prefixed, primary, IsPosts, no_post, index, slice, part, IsPrimary, number, bit_value, true_value, false_value, unit_value, variable, call, enclosed, array, convert, complex, IsArgs, no_args, args, IsMoreExprs, last_expr, more_exprs, plain_var, set_var, IsVar, var_alone, var_set, IsBounds, bounds, IsTarget, target, target_index, target_slice, target_part, IsStmt, declares, assigns, calls, errors, tests, chooses, turns, counts, IsStmts, stmts, IsMoreStmts, no_stmt, last_stmt, more_stmts, plain_body, result_body, IsMoreBody, no_more, ends, goes_on, returns, returns_stopped, IsBody, body, IsAtom, take_atom, takes_atom, emit_atom, emits_atom, return_atom, do_atom, repeat_atom, hinted_atom, while_atom, until_atom, times_atom, for_atom, if_atom, map_atom, filter_atom, call_atom, block_atom, enclosed_atom, IsChain, atom, links, IsLinks, no_link, join, IsBlock, block, IsMembers, binds, member_var, member_runs, last_member, last_stopped, IsResult, no_result, result, IsDecl, declares_var, declares_struct, declares_function, declares_comp, IsDecls, no_decl, more_decls, IsProg, program}
 use Rattle.zir_print.specs.Marks.{nowhere}
 use Rattle.zir_text_laws.specs.Laws.{lexemes}
 use Rattle.zir_place_laws.specs.Bare.{if_some, bare_ident, bare_type, bare_field, bare_expr, bare_var, bare_access, bare_stmt, bare_body, bare_comp, bare_member, bare_decl, bare}
@@ -463,10 +463,12 @@ prog_again (program {ds = ds} {from = from} {to = to} {c = c} a x b y) ps =
     let read = type_again x d.left.1.1.1.1.1.1 in
     let main = chain_again b read.left.1.1 in
     let wrote = type_again y main.left.1.1.1 in
-    let tree : Prog = record { declarations = d.tree; input = read.tree; main = main.tree; output = wrote.tree; at = d.left.0 } in
-    (tree, program d.is read.is main.is wrote.is,
-    ap₂ (λ l t. record { declarations = l; input = t; main = bare_comp main.tree; output = bare_type wrote.tree; at = nowhere }) d.same read.same
-    ∙ ap₂ (λ m t. record { declarations = map bare_decl ds; input = bare_type from; main = m; output = t; at = nowhere }) main.same wrote.same)
+    let tree : Prog = record { declarations = d.tree; input = read.tree; main = main.tree; output = wrote.tree; at = d.left.0 } in (
+      tree,
+      program d.is read.is main.is wrote.is,
+      ap₂ (λ l t. record { declarations = l; input = t; main = bare_comp main.tree; output = bare_type wrote.tree; at = nowhere }) d.same read.same
+          ∙ ap₂ (λ m t. record { declarations = map bare_decl ds; input = bare_type from; main = m; output = t; at = nowhere }) main.same wrote.same,
+    )
 
 -- ---- tokens
 

@@ -17,32 +17,29 @@ use Rattle.zir_tree.specs.declared.stmt.Access.TheVariants as access
 use Rattle.zir_tree.specs.declared.stmt.Stmt.{Stmt, Var as Declares, Assign, Call as Calls, Error, If' as Tests, IfElse', While' as Turns, For' as Counts, Row_of-Stmt, end_of-Stmt, more_of-Stmt}
 use Rattle.zir_tree.specs.declared.stmt.Return.{Return}
 use Rattle.zir_tree.specs.declared.stmt.Body.{Body}
-use Rattle.zir_tree.specs.declared.comp.Turning.{Turning}
-use Rattle.zir_tree.specs.declared.comp.Turning.TheVariants as turning
 use Rattle.zir_tree.specs.declared.comp.Comp.{Comp, Take, Takes, Emit, Emits, Return as Gives, Do, Repeat', While', Times', For', If', Map, Filter, Call, Block', Pipe', end_of-Comp, more_of-Comp, Row_of-Member, end_of-Member, more_of-Member}
-use Rattle.zir_tree.specs.declared.comp.Member.{Member, Bind, Var as Keeps, Run}
+use Rattle.zir_tree.specs.declared.comp.Member.{Bind, Var as Keeps, Run}
 use Rattle.zir_tree.specs.declared.program.Decl.{Decl}
 use Rattle.zir_tree.specs.declared.program.Decl.TheVariants as decl
 use Rattle.zir_tree.specs.declared.program.Prog.{Prog}
 use Rattle.zir_lex.specs.declared.token.Token.{Token}
-use Rattle.zir_lex.specs.declared.token.Lexeme.{Lexeme}
 use Rattle.zir_lex.specs.declared.token.Lexeme.TheVariants as lexeme
 use Rattle.zir_lex.specs.declared.token.Keyword.{Keyword}
 use Rattle.zir_lex.specs.declared.token.Keyword.TheVariants as keyword
 use Rattle.zir_lex.specs.declared.token.Symbol.TheVariants as symbol
-use Rattle.zir_grammar.specs.Grammar.{word, sign, name, main_bytes, symbol_of, rank, prefix_token, link_symbol, link_rank}
-use Rattle.zir_print.specs.Marks.{nowhere, mark, link_word, parted, enclosed, braced, held}
-use Rattle.zir_print.specs.Types.{keyword_of, word_if, ident_word, inner_words, dimension_words, type_words, field_words}
-use Rattle.zir_print.specs.Expressions.{kind, number_words, truth_word, bracket_end, bracket_words, call_words, called_words, expr_words, each_expr}
+use Rattle.zir_grammar.specs.Grammar.{sign, name, main_bytes, symbol_of, rank, prefix_token, link_symbol, link_rank}
+use Rattle.zir_print.specs.Marks.{nowhere, mark, link_word, parted, enclosed, held}
+use Rattle.zir_print.specs.Types.{keyword_of, word_if, inner_words, dimension_words, type_words, field_words}
+use Rattle.zir_print.specs.Expressions.{kind, number_words, truth_word, bracket_end, bracket_words, call_words, expr_words, each_expr}
 use Rattle.zir_print.specs.Statements.{initial_words, var_words, access_words, path_words, bounds_words, list_words, stmt_words, each_stmt, result_words, body_words}
 use Rattle.zir_print.specs.Components.{comp_kind, turning_word, comp_words, each_member, member_words}
 use Rattle.zir_print.specs.Canonical.{params_words, gives_words, decl_words, stream_words, main_words}
-use Rattle.zir_print.specs.Text.{line, decl_lines, canonical_text}
+use Rattle.zir_print.specs.Text.{decl_lines, canonical_text}
 use Rattle.zir_print.proofs.ExprLaw as expr_law
 use Rattle.zir_print.proofs.StmtLaw as stmt_law
 use Rattle.zir_print.proofs.CompLaw as comp_law
 use Rattle.zir_text_laws.specs.Laws.{lexemes}
-use Rattle.zir_place_laws.specs.Bare.{if_some, bare_ident, bare_dimension, bare_type, bare_field, bare_expr, bare_exprs, bare_var, bare_access, bare_stmt, bare_stmts, bare_return, bare_body, bare_comp, bare_member, bare_members, bare_decl, bare}
+use Rattle.zir_place_laws.specs.Bare.{if_some, bare_ident, bare_dimension, bare_type, bare_field, bare_expr, bare_exprs, bare_var, bare_access, bare_stmt, bare_stmts, bare_return, bare_body, bare_comp, bare_members, bare_decl, bare}
 use Rattle.zir_place_laws.proofs.Lexemes.{Alike, joined, enclosed_alike, braced_alike, held_alike, parted_alike, list_alike, each_alike, same_line}
 
 -- ---- types

@@ -17,7 +17,7 @@ PlacesAlone = (ts us : List Token) (p : Prog) (h : ℕ) → lexemes us ≡ lexem
 abbrev pub SameText : Type 0
 SameText = (p q : Prog) → bare q ≡ bare p → canonical_text q ≡ canonical_text p
 
--- the canonical text spells the program again, up to places and not above the limit, and has itself as its canonical text
+-- the canonical text spells the program again, up to places and not above the limit, and nothing else; its canonical text is that text
 pub record ReadsAgain (most : ℕ) (p : Prog) : Type 0 where
   pub again : List Token
   pub program : Prog
@@ -25,6 +25,7 @@ pub record ReadsAgain (most : ℕ) (p : Prog) : Type 0 where
   pub is : IsLowProg most again program
   pub same : bare program ≡ bare p
   pub text : canonical_text program ≡ canonical_text p
+  pub only : (tokens : List Token) (q : Prog) (h : ℕ) → Lexes (canonical_text p) tokens → IsProg tokens q h → q ≡ program
 
 -- whatever text spells a program, the canonical text spells it again, up to places and no higher
 abbrev pub ShowsAgain : Type 0

@@ -1,9 +1,13 @@
-use Rattle.std.specs.Prelude.{ℕ, List}
+use Rattle.std.proofs.Common.{ℕ, List, subst}
 use Rattle.zir_tree.specs.declared.program.Prog.{Prog}
 use Rattle.zir_lex.specs.Tokens.{Lexes}
 use Rattle.zir_lex.specs.declared.token.Token.{Token}
+use Rattle.zir_lex.proofs.Unique.{one_list}
+use Rattle.zir_grammar.specs.Grammar.{IsProg}
 use Rattle.zir_grammar.specs.Claim.{IsLowProg}
+use Rattle.zir_grammar.proofs.Law.{one_program}
 use Rattle.zir_print.specs.Canonical.{canonical}
+use Rattle.zir_print.specs.Text.{canonical_text}
 use Rattle.zir_print.proofs.ProgLaw.{canonical_low}
 use Rattle.zir_text_laws.proofs.Texts.{text_read}
 use Rattle.zir_place_laws.specs.Laws.{ReadsAgain}
@@ -23,6 +27,8 @@ reads_again most text tokens p lexed low =
       is = record { height = back.height; low = back.low; is = q.1 };
       same = q.2;
       text = text_same p q.0 q.2;
+      only = λ others other h read is.
+          one_program found.0 other q.0 h back.height (subst (λ l. IsProg l other h) (one_list (canonical_text p) others found.0 read found.1) is) q.1;
     }
 
 pub returns : goal.returns
