@@ -7,10 +7,10 @@ use zir_grammar::error::ParseError;
 use zir_lex::lexer::lex;
 
 fn answer(alloc: Global, text: &[u8]) -> Result<(), ParseError> {
-    let Ok(tokens) = lex(alloc, text) else {
+    let Ok(found) = lex(alloc, text) else {
         return Err(ParseError::Memory);
     };
-    match parse(alloc, tokens.as_slice()) {
+    match parse(alloc, found.tokens.as_slice()) {
         Ok(program) => {
             drop(program);
             Ok(())

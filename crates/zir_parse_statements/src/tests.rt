@@ -8,10 +8,10 @@ use zir_grammar::stop::Stop;
 use zir_lex::lexer::lex;
 
 fn expression_height(alloc: Global, room: usize, text: &[u8]) -> Result<usize, Stop> {
-    let Ok(tokens) = lex(alloc, text) else {
+    let Ok(found) = lex(alloc, text) else {
         return Err(Stop::Memory);
     };
-    let (_, height, rest) = expression(alloc, room, tokens.as_slice())?;
+    let (_, height, rest) = expression(alloc, room, found.tokens.as_slice())?;
     if rest.len() > 0 {
         return Err(Stop::Syntax(rest.len()));
     }
@@ -19,10 +19,10 @@ fn expression_height(alloc: Global, room: usize, text: &[u8]) -> Result<usize, S
 }
 
 fn body_height(alloc: Global, text: &[u8]) -> Result<usize, Stop> {
-    let Ok(tokens) = lex(alloc, text) else {
+    let Ok(found) = lex(alloc, text) else {
         return Err(Stop::Memory);
     };
-    let (_, height, rest) = body(alloc, 64, tokens.as_slice())?;
+    let (_, height, rest) = body(alloc, 64, found.tokens.as_slice())?;
     if rest.len() > 0 {
         return Err(Stop::Syntax(rest.len()));
     }
