@@ -33,8 +33,8 @@ use Rattle.zir_parse.specs.Main.{After, a_main_chain, written, room_behind}
 use Rattle.zir_parse.proofs.Steps.{begins, begins_deep}
 
 -- the room of a part of the main chain with what stands to its left
-abbrev pub Beside : Left → After Prog → After Prog
-Beside left k t h = k t (joined_height left h)
+abbrev pub beside : Left → After Prog → After Prog
+beside left k t h = k t (joined_height left h)
 
 -- behind a component to the right of a `>>>`
 abbrev pub behind : {A : Type 0} → Left → Comp → ℕ → Place → After A → Comp → ℕ → Rest A
@@ -43,18 +43,18 @@ behind left c h at k d g = reads (behind_main left (comp.Pipe link.Serial c d at
 -- ---- `>>>`
 
 pub pipe_begins : (most room : ℕ) (left : Left) (c : Comp) (h : ℕ) (k : After Prog) (ts : List Token) (at : Place) (rest : List Token)
-    → at_front (a_sign symbol.Pipe) ts ≡ Some (at, rest) → HasRoom most (Beside left k) 1 room → 1 ≤ h → h ≤ room
+    → at_front (a_sign symbol.Pipe) ts ≡ Some (at, rest) → HasRoom most (beside left k) 1 room → 1 ≤ h → h ≤ room
     → run most (reads (behind_main left c h) k) ts ≡ run most (reads (behind_pipe left c h at) k) rest
 pipe_begins most room left c h k ts at rest e has some within =
     taken most (behind_main left c h) k (a_sign symbol.Pipe) ts at rest (reads (behind_pipe left c h at) done_with) e
-    (by_token (entries (behind_main left c h)) (a_sign symbol.Pipe) at _ refl) (fits most (Beside left k) 1 room _ h has some within)
+    (by_token (entries (behind_main left c h)) (a_sign symbol.Pipe) at _ refl) (fits most (beside left k) 1 room _ h has some within)
 
 pub write_begins : (most room : ℕ) (left : Left) (c : Comp) (h : ℕ) (at : Place) (k : After Prog) (ts : List Token) (here : Place) (rest : List Token)
-    → at_front (a_word keyword.Write) ts ≡ Some (here, rest) → HasRoom most (Beside left k) 1 room → 1 ≤ h → h ≤ room
+    → at_front (a_word keyword.Write) ts ≡ Some (here, rest) → HasRoom most (beside left k) 1 room → 1 ≤ h → h ≤ room
     → run most (reads (behind_pipe left c h at) k) ts ≡ run most (written (joined left c) (joined_height left h) k) rest
 write_begins most room left c h at k ts here rest e has some within =
     taken most (behind_pipe left c h at) k (a_word keyword.Write) ts here rest (written (joined left c) (joined_height left h) done_with) e
-    (by_token (pipe_entries left c h at) (a_word keyword.Write) here _ refl) (fits most (Beside left k) 1 room _ h has some within)
+    (by_token (pipe_entries left c h at) (a_word keyword.Write) here _ refl) (fits most (beside left k) 1 room _ h has some within)
 
 pub chain_goes_on : (most : ℕ) (left : Left) (c : Comp) (h : ℕ) (at : Place) (k : After Prog) (ts : List Token) → at_front (a_word keyword.Write) ts ≡ None
     → run most (reads (behind_pipe left c h at) k) ts ≡ run most (reads (a_chain 0) (behind left c h at k)) ts
@@ -67,7 +67,7 @@ behind_height : (room h g : ℕ) → h ≤ room → 1 ≤ g → (suc (max h g) �
 behind_height room h g within some = (λ x. grind (arith, x, within, some), λ x. grind (arith, x, within, some))
 
 -- the room of a component behind a `>>>`
-pub pipe_room : (most room : ℕ) (left : Left) (c : Comp) (h : ℕ) (at : Place) (k : After Prog) → HasRoom most (Beside left k) 1 room → h ≤ room
+pub pipe_room : (most room : ℕ) (left : Left) (c : Comp) (h : ℕ) (at : Place) (k : After Prog) → HasRoom most (beside left k) 1 room → h ≤ room
     → HasRoom most (behind left c h at k) 1 (room_behind room h)
 pipe_room most room left c h at k has within d g some =
     let x = behind_height room h g within some in
@@ -125,7 +125,7 @@ parallel_deep most room c h k ts at rest e has above =
     (omega arith) (omega (arith, above))
 
 pub parallel_room : (most room : ℕ) (c : Comp) (h : ℕ) (at : Place) (k : After Prog) → HasRoom most k 1 room → h < room
-    → HasRoom most (Beside (Some (c, h, at)) k) 1 (room - 1)
+    → HasRoom most (beside (Some (c, h, at)) k) 1 (room - 1)
 parallel_room most room c h at k has below d g some =
     has _ (suc (max h g)) (omega arith) ∙ same_test (suc (max h g)) room g (room - 1) (λ x. omega arith) (λ x. omega arith)
 

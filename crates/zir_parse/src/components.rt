@@ -1,7 +1,7 @@
 // Components.
 //
-// A component that was read is boxed or dropped by a call before the next `?`: what a `?` drops by itself is written out
-// in full, and a component has too many forms for that.
+// A component that was read is boxed or dropped by a call before the next `?`: what a `?` drops by itself is written
+// out in full, and a component has too many forms for that.
 
 ghost use Rattle.std.specs.Prelude.{◌≡◌, ◌≤◌, ◌<◌, [], ℕ, length, IfOk};
 ghost use Rattle.zir_grammar.specs.Parts as parts;
