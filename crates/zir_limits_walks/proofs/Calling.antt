@@ -39,8 +39,8 @@ enter_one whole l b bs m d h =
       depths = deepened n b.holds d.depths;
       agrees = entered_agrees n m b.holds l d.depths h d.agrees;
       rest =
-        ap (λ o. first_of o (too_deep (deepened n b.holds d.depths) bs)) (entered_deep n m b.holds l h)
-        ∙ sym (first_of-more l.deep (deep_calls n b.holds) (too_deep (deepened n b.holds d.depths) bs)) ∙ d.rest;
+          ap (λ o. first_of o (too_deep (deepened n b.holds d.depths) bs)) (entered_deep n m b.holds l h)
+          ∙ sym (first_of-more l.deep (deep_calls n b.holds) (too_deep (deepened n b.holds d.depths) bs)) ∙ d.rest;
     }
 
 length_raised_at : (n k : ℕ) (xs : List ℕ) → length (raised_at n k xs) ≡ length xs

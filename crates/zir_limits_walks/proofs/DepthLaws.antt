@@ -42,13 +42,13 @@ one_agrees : (n m : ℕ) (t : Target) (p : Place) (l : Levels) (d : Depths) → 
     Agrees (raised_by m (target_of t) p l) (λ u. if same_target t u then max n (d u) else d u)
 one_agrees n m (ToFunction j) p l d h a = record {
   functions = λ k lt. let in_range : k < length l.functions = subst (λ x. k < x) (length_raised m j l.functions) lt in
-    raised_agrees n m j k (d (ToFunction k)) l.functions (nat_eq j k) refl h in_range (a.functions k in_range);
+      raised_agrees n m j k (d (ToFunction k)) l.functions (nat_eq j k) refl h in_range (a.functions k in_range);
   instances = λ k lt. a.instances k lt;
 }
 one_agrees n m (ToInstance j) p l d h a = record {
   functions = λ k lt. a.functions k lt;
   instances = λ k lt. let in_range : k < length l.instances = subst (λ x. k < x) (length_raised m j l.instances) lt in
-    raised_agrees n m j k (d (ToInstance k)) l.instances (nat_eq j k) refl h in_range (a.instances k in_range);
+      raised_agrees n m j k (d (ToInstance k)) l.instances (nat_eq j k) refl h in_range (a.instances k in_range);
 }
 
 pub entered_agrees : (n m : ℕ) (ms : List Measure) (l : Levels) (d : Depths) → m ≡ min n 17 → Agrees l d → Agrees (entered m (calls_in ms) l) (deepened n ms d)

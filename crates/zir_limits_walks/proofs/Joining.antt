@@ -31,7 +31,7 @@ if_whole f vs a e i o at n m k s now first (Ok w) hw hn hs joins = (
   joins.0 ∙ (λ j. either f e (hw j) (walked f (hs j) a o)) ∙ sym (walked-If f vs a e i o at),
   noted_two (in_expr (sight f vs) e ++ in_comp f.instances (sight f vs) a i) (in_comp f.instances (sight f vs) a o) n m k hn
       (joins.1 ∙ ap (λ xs. noted (in_comp f.instances (sight f xs) a o) m) hs)
-  ∙ ap (λ ms. noted ms n) (sym (in-If f vs a e i o at)),
+      ∙ ap (λ ms. noted ms n) (sym (in-If f vs a e i o at)),
   joins.2 ∙ hs,
 )
 if_whole f vs a e i o at n m k s now first (Err error) hw hn hs joins = joins
@@ -43,7 +43,7 @@ pipe_whole f vs a link l r at n m k s now first (Ok w) hw hn hs joins = (
   joins.0 ∙ (λ j. piped (hw j) (walked f (hs j) (link_type (hw j).emits) r)) ∙ sym (walked-Pipe f vs a link l r at),
   noted_two (in_link link (links l) at ++ in_comp f.instances (sight f vs) a l) (in_comp f.instances (sight f vs) (link_type (walked f vs a l).emits) r) n m k hn
       (joins.1 ∙ (λ j. noted (in_comp f.instances (sight f (hs j)) (link_type (hw j).emits) r) m))
-  ∙ ap (λ ms. noted ms n) (sym (in-Pipe f vs a link l r at)),
+      ∙ ap (λ ms. noted ms n) (sym (in-Pipe f vs a link l r at)),
   joins.2 ∙ hs,
 )
 pipe_whole f vs a link l r at n m k s now first (Err error) hw hn hs joins = joins

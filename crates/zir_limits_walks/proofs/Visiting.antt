@@ -44,14 +44,14 @@ next_function f0 vs0 n0 all f g vs ws n m calls x rest v s hv hm hs hg =
     let here : Visible = sight f vs in
     let same : here ≡ sight g ws = λ i. sight (sym hg i) (sym hs i) in record {
       measured =
-        s.measured ∙ firsts-more (function_measures here x) (in_functions here rest) n
-        ∙ ap (firsts (in_functions here rest)) (sym hm) ∙ ap (λ (u : Visible). firsts (in_functions u rest) m) same;
+          s.measured ∙ firsts-more (function_measures here x) (in_functions here rest) n
+          ∙ ap (firsts (in_functions here rest)) (sym hm) ∙ ap (λ (u : Visible). firsts (in_functions u rest) m) same;
       called =
-        s.called ∙ one_more calls (function_calls here rest) n.calls (calls_in (function_measures here x)) v.calls s.quiet (ap (λ (w : Visited). w.calls) hv)
-        ∙ ap (λ (u : Visible). (calls ++ v.calls ∷ []) ++ function_calls u rest) same;
+          s.called ∙ one_more calls (function_calls here rest) n.calls (calls_in (function_measures here x)) v.calls s.quiet (ap (λ (w : Visited). w.calls) hv)
+          ∙ ap (λ (u : Visible). (calls ++ v.calls ∷ []) ++ function_calls u rest) same;
       known =
-        s.known ∙ ap (λ k. functions_known (record f { function_needs = f.function_needs ++ k ∷ [] }) rest) (sym (ap (λ (w : Visited). w.need) hv))
-        ∙ ap (λ k. functions_known k rest) (sym hg);
+          s.known ∙ ap (λ k. functions_known (record f { function_needs = f.function_needs ++ k ∷ [] }) rest) (sym (ap (λ (w : Visited). w.need) hv))
+          ∙ ap (λ k. functions_known k rest) (sym hg);
       quiet = ap (λ (u : Notes). u.calls) hm;
       seen = hs ∙ s.seen;
     }
@@ -72,14 +72,14 @@ next_instance f0 vs0 n0 all f g vs ws n m calls x rest v s hv hm hs hg =
     let here : Visible = sight f vs in
     let is : List Instance = f.instances in record {
       measured =
-        s.measured ∙ firsts-more (instance_measures is here x) (in_instances is here rest) n
-        ∙ ap (firsts (in_instances is here rest)) (sym hm) ∙ (λ i. firsts (in_instances (sym hg i).instances (sight (sym hg i) (sym hs i)) rest) m);
+          s.measured ∙ firsts-more (instance_measures is here x) (in_instances is here rest) n
+          ∙ ap (firsts (in_instances is here rest)) (sym hm) ∙ (λ i. firsts (in_instances (sym hg i).instances (sight (sym hg i) (sym hs i)) rest) m);
       called =
-        s.called ∙ one_more calls (instance_calls is here rest) n.calls (calls_in (instance_measures is here x)) v.calls s.quiet (ap (λ (w : Visited). w.calls) hv)
-        ∙ (λ i. (calls ++ v.calls ∷ []) ++ instance_calls (sym hg i).instances (sight (sym hg i) (sym hs i)) rest);
+          s.called ∙ one_more calls (instance_calls is here rest) n.calls (calls_in (instance_measures is here x)) v.calls s.quiet (ap (λ (w : Visited). w.calls) hv)
+          ∙ (λ i. (calls ++ v.calls ∷ []) ++ instance_calls (sym hg i).instances (sight (sym hg i) (sym hs i)) rest);
       known =
-        s.known ∙ ap (λ k. instances_known (record f { instance_needs = f.instance_needs ++ k ∷ [] }) vs rest) (sym (ap (λ (w : Visited). w.need) hv))
-        ∙ (λ i. instances_known (sym hg i) (sym hs i) rest);
+          s.known ∙ ap (λ k. instances_known (record f { instance_needs = f.instance_needs ++ k ∷ [] }) vs rest) (sym (ap (λ (w : Visited). w.need) hv))
+          ∙ (λ i. instances_known (sym hg i) (sym hs i) rest);
       quiet = ap (λ (u : Notes). u.calls) hm;
       seen = hs ∙ s.seen;
     }

@@ -120,10 +120,8 @@ fn visit_function(
     notes: &mut Notes,
     f: &Function,
 ) -> Result<Visited, AllocError>
-    ensures {
-        Visits (function_measures (sight (told facts.now) scope.old) f.now) (function_need (told facts.now) f.now)
-        notes.old notes.new scope.old scope.new result
-    }
+    ensures { Visits (function_measures (sight (told facts.now) scope.old) f.now) (function_need (told facts.now) f.now)
+        notes.old notes.new scope.old scope.new result }
 {
     let before = scope.len();
     note_fields(facts, notes, f.params.as_slice());
@@ -168,10 +166,8 @@ fn visit_instance(
     notes: &mut Notes,
     i: &Instance,
 ) -> Result<Visited, AllocError>
-    ensures {
-        Visits (instance_measures (told facts.now).instances (sight (told facts.now) scope.old) i.now)
-        (instance_need (told facts.now) scope.old i.now) notes.old notes.new scope.old scope.new result
-    }
+    ensures { Visits (instance_measures (told facts.now).instances (sight (told facts.now) scope.old) i.now)
+        (instance_need (told facts.now) scope.old i.now) notes.old notes.new scope.old scope.new result }
 {
     let before = scope.len();
     note_fields(facts, notes, i.params.as_slice());
@@ -217,10 +213,8 @@ pub fn visit_main(
     program: &Prog,
     core: &Core,
 ) -> Result<Visited, AllocError>
-    ensures {
-        Visits (main_measures (told facts.now) scope.old program.now core.now) (main_need (told facts.now) scope.old core.now)
-        notes.old notes.new scope.old scope.new result
-    }
+    ensures { Visits (main_measures (told facts.now) scope.old program.now core.now) (main_need (told facts.now) scope.old core.now)
+        notes.old notes.new scope.old scope.new result }
 {
     note_type(facts, notes, &program.input);
     notes.sends(cells(facts.shapes(), &core.input), program.input.at);

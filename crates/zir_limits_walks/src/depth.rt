@@ -60,7 +60,11 @@ fn enter(levels: &mut Levels, calls: u64, list: &[Call])
 fn level_at(levels: &[u64], place: usize) -> u64
     ensures { result ≡ slice_index levels.now place }
 {
-    if place < levels.len() { levels[place] } else { 0 }
+    if place < levels.len() {
+        levels[place]
+    } else {
+        0
+    }
 }
 
 /// The calls of functions, the last function first, so that each stands before all that it calls.

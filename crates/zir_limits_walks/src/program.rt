@@ -7,7 +7,9 @@ ghost use Rattle.zir_limits.specs.Facts.{told};
 ghost use Rattle.zir_limits_walks.specs.Answers.{Answers, passed_of, in_order};
 ghost use Rattle.zir_limits_walks.specs.Bodies.{measured, facts_of, tops_in};
 
-use crate::bodies::{declare_vars, note_vars, vars_cells, visit_functions, visit_instances, visit_main};
+use crate::bodies::{
+    declare_vars, note_vars, vars_cells, visit_functions, visit_instances, visit_main,
+};
 use crate::depth::first_deep;
 use crate::error::LimitError;
 use crate::found::{Measured, Tops};
@@ -47,11 +49,7 @@ fn visit_tops(
     ensures { IfOk result (λ tops. tops ≡ tops_in program.now core.now) }
 {
     let mut notes = Notes::new(alloc);
-    note_structs(
-        &mut notes,
-        facts.shapes(),
-        program.declarations.as_slice(),
-    );
+    note_structs(&mut notes, facts.shapes(), program.declarations.as_slice());
     note_vars(alloc, facts, scope, &mut notes, core.variables.as_slice())?;
     let calls = notes.take_calls(alloc);
     Ok(Tops { notes, calls })

@@ -7,12 +7,12 @@ ghost use Rattle.zir_types.specs.Measures.{in_var, in_stmt, in_list, in_body, se
 ghost use Rattle.zir_limits.specs.Facts.{told, sight};
 ghost use Rattle.zir_limits.specs.Notes.{noted};
 
+use std::alloc::{AllocError, Global};
 use zir_limits::expression::{note_expr, note_exprs, note_initial, note_path, note_type};
 use zir_limits::facts::Facts;
 use zir_limits::known::{ty_of, type_of};
 use zir_limits::notes::{Notes, Target};
 use zir_limits::scope::Scope;
-use std::alloc::{AllocError, Global};
 use zir_tree::ident::Ident;
 use zir_tree::stmt::{Body, Return, Stmt, Var};
 use zir_tree::types::{Base, Ty};

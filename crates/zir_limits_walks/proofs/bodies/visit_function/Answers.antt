@@ -31,5 +31,5 @@ returns c =
       (λ j. visiting ((c.take_calls-calls.ensures.calls ∙ ap (λ (m : Notes). m.calls) whole) j) (need j)),
       c.take_calls-calls.ensures.rest ∙ ap hushed whole,
       c.leave.ensures ∙ ap (take c.len-before.result) (c.in_ok-note_body.ensures.left ∙ declared)
-      ∙ ap (λ k. take k (vs ++ seen_fields x.params)) c.len-before.ensures ∙ take_front vs (seen_fields x.params),
+          ∙ ap (λ k. take k (vs ++ seen_fields x.params)) c.len-before.ensures ∙ take_front vs (seen_fields x.params),
     )

@@ -46,9 +46,9 @@ walk_while-returns t c =
     let i : Comp = c.args.inner.now in
     λ turning at. (
       (λ j. found c.in_ok-inner.inner.emits (Some (c.scalar.ensures j)) (c.counted.ensures j))
-      ∙ ap (λ (w : Walked). found w.emits nothing_more (counted (w.need + 3))) c.in_ok-inner.ensures.0 ∙ sym (walked-While f vs a turning c.args.e.now i at),
+          ∙ ap (λ (w : Walked). found w.emits nothing_more (counted (w.need + 3))) c.in_ok-inner.ensures.0 ∙ sym (walked-While f vs a turning c.args.e.now i at),
       noted_two (in_expr g c.args.e.now) (in_comp f.instances g a i) c.args.notes.now c.note_expr.new.notes c.walk_comp.new.notes c.in_ok-note_expr.ensures c.in_ok-inner.ensures.1
-      ∙ ap (λ ms. noted ms c.args.notes.now) (sym (in-While f vs a turning c.args.e.now i at)),
+          ∙ ap (λ ms. noted ms c.args.notes.now) (sym (in-While f vs a turning c.args.e.now i at)),
       c.in_ok-inner.ensures.2,
     )
 
@@ -61,9 +61,9 @@ walk_times-returns t c =
     let i : Comp = c.args.inner.now in
     λ at. (
       (λ j. found c.in_ok-inner.inner.emits (Some (c.scalar.ensures j)) (c.counted.ensures j))
-      ∙ ap (λ (w : Walked). found w.emits nothing_more (counted (w.need + 3))) c.in_ok-inner.ensures.0 ∙ sym (walked-Times f vs a c.args.e.now i at),
+          ∙ ap (λ (w : Walked). found w.emits nothing_more (counted (w.need + 3))) c.in_ok-inner.ensures.0 ∙ sym (walked-Times f vs a c.args.e.now i at),
       noted_two (in_expr g c.args.e.now) (in_comp f.instances g a i) c.args.notes.now c.note_expr.new.notes c.walk_comp.new.notes c.in_ok-note_expr.ensures c.in_ok-inner.ensures.1
-      ∙ ap (λ ms. noted ms c.args.notes.now) (sym (in-Times f vs a c.args.e.now i at)),
+          ∙ ap (λ ms. noted ms c.args.notes.now) (sym (in-Times f vs a c.args.e.now i at)),
       c.in_ok-inner.ensures.2,
     )
 
@@ -77,10 +77,9 @@ walk_then-returns t c =
 
 pub walk_else-returns : goal.walk_else-returns
 walk_else-returns t c =
-    let f : CoreFacts = told c.args.facts.now in
-    (
+    let f : CoreFacts = told c.args.facts.now in (
       (λ j. found (c.first_some.ensures j) c.args.first.value (of_greater c.greater-2.ensures c.expr_need.ensures c.greater.ensures j))
-      ∙ ap (either f c.args.e.now c.args.first) c.in_ok-other.ensures.0,
+          ∙ ap (either f c.args.e.now c.args.first) c.in_ok-other.ensures.0,
       c.in_ok-other.ensures.1,
       c.in_ok-other.ensures.2,
     )
@@ -98,10 +97,9 @@ walk_right-returns t c =
     let f : CoreFacts = told c.args.facts.now in
     let vs : List Seen = c.args.scope.now in
     let r : Comp = c.args.right.now in
-    let ty = c.link_type-between.ensures in
-    (
+    let ty = c.link_type-between.ensures in (
       (λ j. found c.in_ok-right.right.emits (c.first_some.ensures j) (pipe_need _ _ c.saturating_add-both.ensures c.counted.ensures j))
-      ∙ ap (piped c.args.first) (c.in_ok-right.ensures.0 ∙ ap (λ x. walked f vs x r) ty),
+          ∙ ap (piped c.args.first) (c.in_ok-right.ensures.0 ∙ ap (λ x. walked f vs x r) ty),
       c.in_ok-right.ensures.1 ∙ ap (λ x. noted (in_comp f.instances (sight f vs) x r) c.args.notes.now) ty,
       c.in_ok-right.ensures.2,
     )
@@ -117,14 +115,14 @@ walk_for-returns t c =
     let inside = c.in_ok-inner.ensures.0 ∙ ap (λ s. walked f s a i) opened in
     λ at. (
       (λ j. found c.in_ok-inner.inner.emits (Some (c.scalar-2.ensures j)) (c.counted.ensures j))
-      ∙ ap (λ (w : Walked). found w.emits nothing_more (counted (w.need + 3))) inside ∙ sym (walked-For f vs a c.args.x.now c.args.e.now c.args.n.now i at),
+          ∙ ap (λ (w : Walked). found w.emits nothing_more (counted (w.need + 3))) inside ∙ sym (walked-For f vs a c.args.x.now c.args.e.now c.args.n.now i at),
       noted_two (in_expr g c.args.e.now ++ in_expr g c.args.n.now) (in_comp f.instances (sight f (behind_index c.args.x.now vs)) a i)
-      c.args.notes.now c.note_expr-2.new.notes c.walk_comp.new.notes
-      (noted_two (in_expr g c.args.e.now) (in_expr g c.args.n.now) c.args.notes.now c.note_expr.new.notes c.note_expr-2.new.notes c.in_ok-note_expr.ensures c.in_ok-note_expr-2.ensures)
-      (c.in_ok-inner.ensures.1 ∙ ap (λ s. noted (in_comp f.instances (sight f s) a i) c.note_expr-2.new.notes) opened)
-      ∙ ap (λ ms. noted ms c.args.notes.now) (sym (in-For f vs a c.args.x.now c.args.e.now c.args.n.now i at)),
+          c.args.notes.now c.note_expr-2.new.notes c.walk_comp.new.notes
+          (noted_two (in_expr g c.args.e.now) (in_expr g c.args.n.now) c.args.notes.now c.note_expr.new.notes c.note_expr-2.new.notes c.in_ok-note_expr.ensures c.in_ok-note_expr-2.ensures)
+          (c.in_ok-inner.ensures.1 ∙ ap (λ s. noted (in_comp f.instances (sight f s) a i) c.note_expr-2.new.notes) opened)
+          ∙ ap (λ ms. noted ms c.args.notes.now) (sym (in-For f vs a c.args.x.now c.args.e.now c.args.n.now i at)),
       c.leave.ensures ∙ ap (λ n. take n c.walk_comp.new.scope) c.len-before.ensures ∙ ap (take (length vs)) (c.in_ok-inner.ensures.2 ∙ opened)
-      ∙ take_front vs (variable c.args.x.now.id (scalar Int32) ∷ []),
+          ∙ take_front vs (variable c.args.x.now.id (scalar Int32) ∷ []),
     )
 
 pub walk_comp-returns-in-Take : goal.walk_comp-returns-in-Take
@@ -279,7 +277,7 @@ walk_run-returns t c =
     let a : Ty = c.args.a.now in
     let w = c.in_ok-walked.ensures in (
       (λ j. known (c.first_some.ensures j) c.in_ok-walked.walked.value c.args.so_far.cells (c.greater.ensures j))
-      ∙ ap (λ (w : Walked). known (first_some c.args.so_far.emits w.emits) w.value c.args.so_far.cells (max c.args.so_far.most w.need)) w.0,
+          ∙ ap (λ (w : Walked). known (first_some c.args.so_far.emits w.emits) w.value c.args.so_far.cells (max c.args.so_far.most w.need)) w.0,
       w.1,
       w.2 ∙ sym (append-nil vs),
     )
@@ -294,8 +292,8 @@ walk_bind-returns t c =
     let ty = c.in_ok-ty.ensures ∙ ap (λ (w : Walked). or_unit w.value) w.0 in
     let held = cells_same _ _ _ _ _ c.cells-held.ensures c.shapes.ensures ty in (
       (λ j. known (c.first_some.ensures j) c.in_ok-walked.walked.value ((c.counted.ensures ∙ ap (λ k. counted (c.args.so_far.cells + k)) held) j) (c.greater.ensures j))
-      ∙ ap (λ (w : Walked). known (first_some c.args.so_far.emits w.emits) w.value
-        (counted (c.args.so_far.cells + cells_in f.shapes (or_unit (walked f vs a c.args.c.now).value))) (max c.args.so_far.most w.need)) w.0,
+          ∙ ap (λ (w : Walked). known (first_some c.args.so_far.emits w.emits) w.value
+          (counted (c.args.so_far.cells + cells_in f.shapes (or_unit (walked f vs a c.args.c.now).value))) (max c.args.so_far.most w.need)) w.0,
       w.1,
       c.in_ok-declare.ensures ∙ ap (λ s. s ++ variable c.args.x.now.id c.in_ok-ty.ty ∷ []) w.2 ∙ ap (λ y. vs ++ variable c.args.x.now.id y ∷ []) ty,
     )
@@ -313,12 +311,12 @@ walk_block-loop-m-preserved t c =
     let held = c.loop-m.invariant in
     record {
       known =
-        held.known ∙ ap (λ l. members_next f vs a c.loop-m.so_far l) here
-        ∙ ap (λ n. members_next f (vs ++ member_seen f vs a m) a n rest) (sym step.0) ∙ ap (λ s. members_next f s a c.in_ok-so_far.so_far rest) (sym step.2);
+          held.known ∙ ap (λ l. members_next f vs a c.loop-m.so_far l) here
+          ∙ ap (λ n. members_next f (vs ++ member_seen f vs a m) a n rest) (sym step.0) ∙ ap (λ s. members_next f s a c.in_ok-so_far.so_far rest) (sym step.2);
       noted_ =
-        held.noted_ ∙ ap (λ l. noted (members_measures f vs a l) c.loop-m.notes) here
-        ∙ noted_next (member_measures f vs a m) (members_measures f (vs ++ member_seen f vs a m) a rest) c.loop-m.notes c.walk_member.new.notes step.1
-        ∙ ap (λ s. noted (members_measures f s a rest) c.walk_member.new.notes) (sym step.2);
+          held.noted_ ∙ ap (λ l. noted (members_measures f vs a l) c.loop-m.notes) here
+          ∙ noted_next (member_measures f vs a m) (members_measures f (vs ++ member_seen f vs a m) a rest) c.loop-m.notes c.walk_member.new.notes step.1
+          ∙ ap (λ s. noted (members_measures f s a rest) c.walk_member.new.notes) (sym step.2);
       seen = (held.seen.0 ++ member_seen f vs a m, step.2 ∙ ap (λ s. s ++ member_seen f vs a m) held.seen.1 ∙ append_assoc c.args.scope.now held.seen.0 (member_seen f vs a m));
     }
 
@@ -333,10 +331,10 @@ walk_block-returns t c =
     let past : length ms ≤ c.loop-m.m-index = omega arith in
     let here : drop c.loop-m.m-index ms ≡ [] = drop_past ms c.loop-m.m-index past in
     let all : members_next f vs a no_members ms ≡ end_ =
-      ap (λ x. members_next f vs a (known None (Some x) 0 0) ms) (sym c.scalar.ensures) ∙ held.known ∙ ap (λ l. members_next f c.loop-m.scope a end_ l) here in
+    ap (λ x. members_next f vs a (known None (Some x) 0 0) ms) (sym c.scalar.ensures) ∙ held.known ∙ ap (λ l. members_next f c.loop-m.scope a end_ l) here in
     λ at. (
       ap (found end_.emits end_.value) c.counted.ensures ∙ ap (λ (m : Members). found m.emits m.value (counted (m.cells + m.most))) (sym all) ∙ sym (walked-Block f vs a ms at),
       sym (held.noted_ ∙ ap (λ l. noted (members_measures f c.loop-m.scope a l) c.loop-m.notes) here ∙ noted-none c.loop-m.notes)
-      ∙ ap (λ xs. noted xs c.args.notes.now) (sym (in-Block f vs a ms at)),
+          ∙ ap (λ xs. noted xs c.args.notes.now) (sym (in-Block f vs a ms at)),
       c.leave.ensures ∙ ap (λ n. take n c.loop-m.scope) c.len-before.ensures ∙ ap (take (length vs)) held.seen.1 ∙ take_front vs held.seen.0,
     )

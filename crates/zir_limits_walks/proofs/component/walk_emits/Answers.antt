@@ -24,6 +24,6 @@ returns c =
     λ a. (
       λ i. found (Some (e i)) (Some (c.scalar.ensures i)) (n i),
       noted_two (in_expr g c.args.e.now) (Sends _ c.args.at ∷ []) c.args.notes.now c.note_expr.new.notes c.sends.new.self c.in_ok-note_expr.ensures
-      (c.sends.ensures ∙ ap (λ x. noted (Sends x c.args.at ∷ []) c.note_expr.new.notes) k),
+          (c.sends.ensures ∙ ap (λ x. noted (Sends x c.args.at ∷ []) c.note_expr.new.notes) k),
       refl,
     )

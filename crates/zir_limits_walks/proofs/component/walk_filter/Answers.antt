@@ -22,6 +22,6 @@ returns c =
     λ vs f. (
       λ i. found (Some (e i)) None (n i),
       noted_two (Calls (ToFunction c.args.k) c.args.at ∷ []) (Sends _ c.args.at ∷ []) c.args.notes.now c.call.new.self c.sends.new.self c.in_ok-call.ensures
-      (c.sends.ensures ∙ ap (λ x. noted (Sends x c.args.at ∷ []) c.call.new.self) k),
+          (c.sends.ensures ∙ ap (λ x. noted (Sends x c.args.at ∷ []) c.call.new.self) k),
       refl,
     )

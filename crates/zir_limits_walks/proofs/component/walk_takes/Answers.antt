@@ -22,6 +22,6 @@ returns c =
     λ vs. (
       λ i. found None (Some (e i)) 1,
       noted_two (Spans c.args.count c.args.at ∷ []) (Holds _ c.args.at ∷ []) c.args.notes.now c.spans.new.self c.holds.new.self c.spans.ensures
-      (c.holds.ensures ∙ ap (λ x. noted (Holds x c.args.at ∷ []) c.spans.new.self) k),
+          (c.holds.ensures ∙ ap (λ x. noted (Holds x c.args.at ∷ []) c.spans.new.self) k),
       refl,
     )

@@ -57,5 +57,5 @@ returns c =
     ((c.in_ok-functions.ensures.calls ∙ (λ k. function_calls (sight (c.in_ok-facts.ensures k) (seen0 k)) (c.as_slice-2.ensures k))) j)
     ((c.in_ok-instances.ensures.calls ∙ (λ k. instance_calls (same1 k).instances (sight (same1 k) (seen1 k)) (c.as_slice-3.ensures k))) j)
     ((c.counted-need.ensures
-      ∙ ap (λ n. counted (n + c.vars_cells.result)) (ap (λ (v : Visited). v.need) c.in_ok-main.ensures.0 ∙ (λ k. main_need (known2 k) (seen2 k) core))
-      ∙ ap (λ n. counted (main_need (known_of core) vs core + n)) (c.vars_cells.ensures ∙ (λ k. vars_cells (same2 k).shapes (c.as_slice-4.ensures k)))) j)
+    ∙ ap (λ n. counted (n + c.vars_cells.result)) (ap (λ (v : Visited). v.need) c.in_ok-main.ensures.0 ∙ (λ k. main_need (known2 k) (seen2 k) core))
+    ∙ ap (λ n. counted (main_need (known_of core) vs core + n)) (c.vars_cells.ensures ∙ (λ k. vars_cells (same2 k).shapes (c.as_slice-4.ensures k)))) j)

@@ -161,10 +161,10 @@ note_stmts-loop-s-preserved t c =
     let here : drop c.loop-s.s-index ss ≡ x ∷ rest = at_place ss c.loop-s.s-index x c.loop-s-test.true c.s-item.is in
     record {
       noted_ =
-        c.loop-s.invariant.noted_ ∙ ap (λ l. noted (in_list (sight f c.loop-s.scope) l None) c.loop-s.notes) here
-        ∙ noted_next (in_stmt (sight f c.loop-s.scope) x) (in_list (sight f (c.loop-s.scope ++ seen_stmt x)) rest None) c.loop-s.notes c.note_stmt.new.notes c.in_ok-note_stmt.ensures.noted
-        ∙ ap (λ s. noted (in_list (sight f s) rest None) c.note_stmt.new.notes) (sym c.in_ok-note_stmt.ensures.seen);
+          c.loop-s.invariant.noted_ ∙ ap (λ l. noted (in_list (sight f c.loop-s.scope) l None) c.loop-s.notes) here
+          ∙ noted_next (in_stmt (sight f c.loop-s.scope) x) (in_list (sight f (c.loop-s.scope ++ seen_stmt x)) rest None) c.loop-s.notes c.note_stmt.new.notes c.in_ok-note_stmt.ensures.noted
+          ∙ ap (λ s. noted (in_list (sight f s) rest None) c.note_stmt.new.notes) (sym c.in_ok-note_stmt.ensures.seen);
       seen =
-        c.loop-s.invariant.seen ∙ ap (λ l. c.loop-s.scope ++ seen_stmts l) here ∙ seen_behind c.loop-s.scope x rest
-        ∙ ap (λ s. s ++ seen_stmts rest) (sym c.in_ok-note_stmt.ensures.seen);
+          c.loop-s.invariant.seen ∙ ap (λ l. c.loop-s.scope ++ seen_stmts l) here ∙ seen_behind c.loop-s.scope x rest
+          ∙ ap (λ s. s ++ seen_stmts rest) (sym c.in_ok-note_stmt.ensures.seen);
     }
