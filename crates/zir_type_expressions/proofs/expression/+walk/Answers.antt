@@ -1,4 +1,4 @@
-use Rattle.std.proofs.Common.{◌∙◌, ◌&&◌, ap, sym, refl}
+use Rattle.std.proofs.Common.{◌∙◌, ◌&&◌, ap, refl}
 use Rattle.zir_types.specs.Walk.{Fine}
 use Rattle.zir_types.specs.Wants.{asked_ty}
 use Rattle.zir_types.specs.Scope.{called_in}

@@ -1,5 +1,0 @@
-pub mod Answers
-pub mod Numbers
-pub mod Calls
-pub mod Blocks
-pub mod Sizes
