@@ -1,5 +1,5 @@
 -- Notes of first places in a list that grows and is cut.
-use Rattle.std.specs.Prelude.{◌≡◌, refl, ℕ, zero, suc, ◌+◌, ◌<◌, ◌≤◌, Bool, true, false, cond, List, [], ◌∷◌, ◌++◌, length, take, Option, Some, None, nat_eq, slice_get, if◌then◌else◌}
+use Rattle.std.specs.Prelude.{◌≡◌, refl, ℕ, zero, suc, ◌+◌, false, cond, List, [], ◌∷◌, ◌++◌, length, Option, Some, None, nat_eq, slice_get, if◌then◌else◌}
 use Rattle.std.proofs.Common.{ap, ◌∙◌, sym, subst, arith, inl, inr}
 use Rattle.std.proofs.lemmas.Bool.{cases_Bool, eq-eqb, eqb-true}
 use Rattle.zir_lookup.specs.Numbers.{place_from, if_there, noted, AreNoted}
@@ -82,8 +82,8 @@ pub push_noted : (xs : List ℕ) (notes : ℕ → Option ℕ) (x : ℕ) → AreN
 push_noted xs notes x h note = λ id. elim (cases_Bool (nat_eq x id)) [
   | inl e ↦ subst (λ j. place_from 0 (xs ++ x ∷ []) j ≡ noted (xs ++ x ∷ []) j (notes j)) (eqb-true x id e)
       (let missed : place_from 0 xs x ≡ None = h x ∙ ap (noted xs x) note ∙ noted-past xs x in
-       missed-push 0 xs x x missed ∙ ap (λ t. if t then Some (0 + length xs) else None) (eq-eqb x x refl)
-       ∙ ap Some (let e : 0 + length xs ≡ length xs = omega arith in e) ∙ sym (ap (noted (xs ++ x ∷ []) x) note ∙ there-end xs x))
+      missed-push 0 xs x x missed ∙ ap (λ t. if t then Some (0 + length xs) else None) (eq-eqb x x refl)
+      ∙ ap Some (let e : 0 + length xs ≡ length xs = omega arith in e) ∙ sym (ap (noted (xs ++ x ∷ []) x) note ∙ there-end xs x))
   | inr e ↦ pushed-other xs x id (notes id) e (place_from 0 xs id) refl (sym (h id))
 ]
 

@@ -47,13 +47,7 @@ impl Numbers {
             None => None,
             Some(place) => match self.list.get(*place) {
                 None => None,
-                Some(x) => {
-                    if *x == id {
-                        Some(*place)
-                    } else {
-                        None
-                    }
-                }
+                Some(x) => { if *x == id { Some(*place) } else { None } }
             },
         }
     }

@@ -1,5 +1,5 @@
 -- The equations of statements and paths at the trees that code has.
-use Rattle.std.specs.Prelude.{◌≡◌, ℕ, List, [], ◌∷◌, ◌++◌, length, refl}
+use Rattle.std.specs.Prelude.{◌≡◌, List, [], ◌∷◌, ◌++◌, length, refl}
 use Rattle.std.proofs.Common.{ap, ◌∙◌, sym}
 use denote.Hole.Carrier.{hidden}
 use Rattle.zir_tree.specs.declared.ident.Ident.{Ident}
@@ -11,7 +11,6 @@ use Rattle.zir_tree.specs.declared.stmt.Stmt.{Stmt, If, IfElse, While, For}
 use Rattle.zir_tree.specs.declared.stmt.Stmt.TheBlock.{shape-the_row-Stmt-0, hidden-the_row-Stmt-0}
 use Rattle.zir_types.specs.declared.scope.Seen.{Seen}
 use Rattle.zir_types.specs.declared.typed.Path.{Path}
-use Rattle.zir_types.specs.declared.typed.Step.{Step}
 use Rattle.zir_types.specs.Walk.{Walk, Fine, Broken, and_then}
 use Rattle.zir_types.specs.Scope.{Visible, declare}
 use Rattle.zir_types.specs.Expressions.{expr, unasked}

@@ -1,6 +1,5 @@
 -- The walks of statements one after the other and of the steps of a path, as code takes them.
 use Rattle.std.specs.Prelude.{◌≡◌, List, [], Result, Ok, Err}
-use Rattle.zir_tree.specs.declared.expr.Expr.{Expr}
 use Rattle.zir_tree.specs.declared.stmt.Access.{Access}
 use Rattle.zir_tree.specs.declared.stmt.Access.TheVariants.{Index, Slice, Part}
 use Rattle.zir_tree.specs.declared.stmt.Stmt.{Stmt}

@@ -8,7 +8,6 @@ ghost use Rattle.zir_types.specs.Statements.{body_of, do_end as do_end_walk, do_
 ghost use Rattle.zir_types.specs.Statements.{some_result as some_result_walk, fun_end as fun_end_walk, fun_body as fun_walk, no_heading};
 ghost use Rattle.zir_types.specs.Statements.{one_more_param, heading as heading_walk};
 
-use zir_type_expressions::expression::type_expr;
 use crate::statement::type_sequence;
 use sqlite_items::Items;
 use std::alloc::{AllocError, Global};
@@ -16,6 +15,7 @@ use zir_tree::ident::Ident;
 use zir_tree::place::Place;
 use zir_tree::stmt::{Body, Return, Stmt};
 use zir_tree::types::{Base, Field, Ty};
+use zir_type_expressions::expression::type_expr;
 use zir_types::error::TypeError;
 use zir_types::kinds::{copy, same, scalar};
 use zir_types::scope::{Scope, Seen, copy_ident};

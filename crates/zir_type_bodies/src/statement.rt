@@ -6,7 +6,6 @@ ghost use Rattle.zir_types.specs.Walk.{Told};
 ghost use Rattle.zir_types.specs.Statements.{initial as initial_walk, var as var_walk, path as path_walk, stmt as stmt_walk, stmts_of};
 ghost use Rattle.zir_type_bodies.specs.Sequences.{ToldIn, access_step, block};
 
-use zir_type_expressions::expression::{type_args, type_expr};
 use crate::rules::{
     assigned, call_step, declared, enter, enter_index, error_step, for_step, if_else_step, if_step,
     index_step, of_type, part_step, root, slice_step, while_step,
@@ -18,6 +17,7 @@ use zir_tree::ident::Ident;
 use zir_tree::place::Place;
 use zir_tree::stmt::{Access, Stmt, Var};
 use zir_tree::types::Ty;
+use zir_type_expressions::expression::{type_args, type_expr};
 use zir_types::error::TypeError;
 use zir_types::scope::{Scope, copy_ident};
 use zir_types::typed::{Path, Step, TypedVar};

@@ -5,7 +5,7 @@ ghost use Rattle.zir_types.specs.Expressions.{Alike, InTurn, args_of, expr as wa
 ghost use Rattle.zir_types.specs.Expressions.{unasked as nothing_asked, lent as lending, joined as join_walk, indexed as index_walk};
 ghost use Rattle.zir_types.specs.Expressions.{sliced as slice_walk, paired as pair_walk, selected as part_walk, converted as convert_walk};
 ghost use Rattle.zir_types.specs.Expressions.{gathered as array_walk, call as call_walk, unary as prefix_walk, wanted as wanting};
-ghost use Rattle.zir_types.specs.Expressions.{negates as negating, number_of as number_in, kept as keeping, signs as signing, is_literal as literal};
+ghost use Rattle.zir_types.specs.Expressions.{negates as negating, number_of as number_in, kept as keeping, signs as signing, is_literal as literal, element_asked as element_asking};
 ghost use Rattle.zir_types.specs.Kinds.{scalar as scalar_ty};
 ghost use Rattle.zir_types.specs.Scope.{called_in};
 ghost use Rattle.zir_types.specs.Walk.{Walk, Told, and_then};
@@ -32,24 +32,23 @@ use zir_types::wants::{
     right_first, unasked, wanted_base,
 };
 
+/// A value that the text spells, of this type.
+fn constant(alloc: Global, what: Expr, base: Base) -> Typed
+    ensures { result ≡ record { what = what; ty = scalar_ty base } }
+{
+    let ty = scalar(alloc, base);
+    Typed { what, ty }
+}
+
 /// An expression with its type, where this is asked of a literal.
 #[cycle(walk)]
 pub fn type_expr(alloc: Global, scope: &Scope, want: Want<'_>, e: &Expr) -> Result<Typed, TypeError>
     ensures { Told (walk scope.now (asked_ty want.entry) e.now) result }
 {
     match e {
-        Expr::Unit(at) => Ok(Typed {
-            what: Expr::Unit(*at),
-            ty: scalar(alloc, Base::Unit),
-        }),
-        Expr::Bit(bit, at) => Ok(Typed {
-            what: Expr::Bit(*bit, *at),
-            ty: scalar(alloc, Base::Bit),
-        }),
-        Expr::Bool(truth, at) => Ok(Typed {
-            what: Expr::Bool(*truth, *at),
-            ty: scalar(alloc, Base::Bool),
-        }),
+        Expr::Unit(at) => Ok(constant(alloc, Expr::Unit(*at), Base::Unit)),
+        Expr::Bit(bit, at) => Ok(constant(alloc, Expr::Bit(*bit, *at), Base::Bit)),
+        Expr::Bool(truth, at) => Ok(constant(alloc, Expr::Bool(*truth, *at), Base::Bool)),
         Expr::Int(n, _, at) => int_at(alloc, literal_type(want), *n, *at),
         Expr::Variable(x) => variable(alloc, scope, x),
         Expr::Unary(op, _, inner, at) => type_unary(alloc, scope, want, inner.get(), *op, *at),
@@ -74,13 +73,7 @@ pub fn type_expr(alloc: Global, scope: &Scope, want: Want<'_>, e: &Expr) -> Resu
         }
         Expr::Part(a, name, _, at) => type_part(alloc, scope, name, a.get(), *at),
         Expr::Call(f, _, es) => type_application(alloc, scope, f, es.as_slice()),
-        Expr::Array(parts, at) => type_array(
-            alloc,
-            scope,
-            element_asked(want),
-            parts.as_slice(),
-            *at,
-        ),
+        Expr::Array(parts, at) => type_array(alloc, scope, want, parts.as_slice(), *at),
         Expr::Convert(to, inner, at) => type_convert(alloc, scope, *to, inner.get(), *at),
         Expr::Complex(to, x, y, at) => {
             let s = type_expr(alloc, scope, unasked(), x.get())?;
@@ -242,7 +235,7 @@ fn type_application(
     }
 }
 
-/// An array literal, where this is asked of its elements.
+/// An array literal, where this is asked of it.
 #[cycle(walk)]
 fn type_array(
     alloc: Global,
@@ -251,9 +244,9 @@ fn type_array(
     parts: &[Expr],
     at: Place,
 ) -> Result<Typed, TypeError>
-    ensures { Told (and_then (args_of scope.now (Alike (asked_ty want.entry)) no_args parts.now) (array_walk at)) result }
+    ensures { Told (and_then (args_of scope.now (Alike (element_asking (asked_ty want.entry))) no_args parts.now) (array_walk at)) result }
 {
-    let ts = type_alike(alloc, scope, want, parts)?;
+    let ts = type_alike(alloc, scope, element_asked(want), parts)?;
     gathered(alloc, at, ts)
 }
 

@@ -1,6 +1,6 @@
 -- Declarations found by their numbers.
-use Rattle.std.specs.Prelude.{◌≡◌, refl, ℕ, zero, suc, ◌+◌, Bool, true, false, List, [], ◌∷◌, ◌++◌, map, take, Option, Some, None, nat_eq, slice_get, MatchOption, if◌then◌else◌}
-use Rattle.std.proofs.Common.{ap, ◌∙◌, sym, subst, arith, inl, inr}
+use Rattle.std.specs.Prelude.{◌≡◌, refl, ℕ, zero, suc, ◌+◌, List, [], ◌∷◌, take, Option, Some, None, nat_eq, slice_get, MatchOption}
+use Rattle.std.proofs.Common.{ap, ◌∙◌, sym, arith, inl, inr}
 use Rattle.std.proofs.lemmas.Bool.{cases_Bool}
 use Rattle.std.proofs.lemmas.List.{take-map}
 use Rattle.zir_tree.specs.declared.types.Ty.{Ty}

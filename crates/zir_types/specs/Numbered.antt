@@ -3,7 +3,7 @@ use Rattle.std.specs.Prelude.{◌≡◌, ℕ, List, map, Some, slice_get}
 use Rattle.zir_types.specs.declared.scope.Seen.{Seen}
 use Rattle.zir_types.specs.declared.scope.Shape.{Shape}
 use Rattle.zir_types.specs.declared.scope.Signature.{Signature}
-use Rattle.zir_types.specs.Scope.{Placed, function_from, shape_from}
+use Rattle.zir_types.specs.Scope.{function_from, shape_from}
 
 -- The numbers of structs.
 abbrev pub shape_ids : List Shape → List ℕ

@@ -4,8 +4,8 @@ ghost use Rattle.std.specs.Prelude.{◌≡◌, ◌*◌, ◌≤◌};
 ghost use Rattle.zir_types.specs.Scope.{capped as capping, base_cells as base_count, array_cells as array_count, cells_in as count, all_cells as whole_count};
 ghost use Rattle.zir_types.specs.Scope.{has_cells as having_cells};
 
-use zir_tree::types::{Base, Ty};
 use crate::scope::Shape;
+use zir_tree::types::{Base, Ty};
 
 /// A number of cells, with 65,537 for every greater number.
 fn capped(n: u128) -> u32

@@ -1,4 +1,4 @@
-use Rattle.std.proofs.Common.{◌≡◌, ◌++◌, sym, subst, nat_eq, take, drop}
+use Rattle.std.proofs.Common.{sym, subst, nat_eq, take, drop}
 use Rattle.std.proofs.lemmas.List.{take-append-drop}
 use Rattle.std.specs.HashMap.{get}
 use Rattle.zir_lookup.specs.Numbers.{AreNoted}

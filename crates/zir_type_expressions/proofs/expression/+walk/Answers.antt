@@ -1,8 +1,8 @@
-use Rattle.std.proofs.Common.{◌∙◌, ◌&&◌, ap, sym, refl}
+use Rattle.std.proofs.Common.{sym, ◌∙◌, ◌&&◌, ap, refl}
 use Rattle.zir_types.specs.Walk.{Fine}
 use Rattle.zir_types.specs.Wants.{asked_ty}
 use Rattle.zir_types.specs.Scope.{called_in}
-use Rattle.zir_types.specs.Expressions.{Alike, expr, args_of, no_args, call, unary, kept, signs, is_literal, joined, indexed, sliced, paired, selected, converted, prefixed}
+use Rattle.zir_types.specs.Expressions.{Alike, expr, args_of, no_args, call, unary, kept, signs, is_literal, joined, indexed, sliced, paired, selected, converted, prefixed, element_asked, gathered}
 use Rattle.zir_types.proofs.Told.{told_err}
 use Rattle.zir_types.proofs.Fine.{same_fine}
 use Rattle.zir_types.proofs.Equations.{expr-Unary, expr-Index, expr-Slice, expr-Part, expr-Convert, expr-Complex, expr-Array, expr-Call}
@@ -81,11 +81,13 @@ type_convert-returns t c =
 
 pub type_array-returns-in_err-ts : goal.type_array-returns-in_err-ts
 type_array-returns-in_err-ts t c =
-    told_err _ _ _ _ c.from_residual.ensures.1 c.in_err-ts.ensures
+    shifted_args c.args.scope.now (Alike (asked_ty c.element_asked.result)) (Alike (element_asked (asked_ty c.args.want))) c.args.parts.now c.args.parts.now (gathered c.args.at) _
+    (ap Alike c.element_asked.ensures) refl (told_err (args_of c.args.scope.now (Alike (asked_ty c.element_asked.result)) no_args c.args.parts.now) (gathered c.args.at) _ _ c.from_residual.ensures.1 c.in_err-ts.ensures)
 
 pub type_array-returns : goal.type_array-returns
 type_array-returns t c =
-    told_ok _ _ _ _ c.in_ok-ts.ensures c.gathered.ensures
+    shifted_args c.args.scope.now (Alike (asked_ty c.element_asked.result)) (Alike (element_asked (asked_ty c.args.want))) c.args.parts.now c.args.parts.now (gathered c.args.at) _
+    (ap Alike c.element_asked.ensures) refl (told_ok (args_of c.args.scope.now (Alike (asked_ty c.element_asked.result)) no_args c.args.parts.now) (gathered c.args.at) _ _ c.in_ok-ts.ensures c.gathered.ensures)
 
 pub type_application-returns-in_err-called : goal.type_application-returns-in_err-called
 type_application-returns-in_err-called t c =
@@ -157,8 +159,17 @@ type_expr-returns-in-Call t c =
 
 pub type_expr-returns-in-Array : goal.type_expr-returns-in-Array
 type_expr-returns-in-Array t c =
-    rw c.in-Array.is (told_as _ _ _ (expr-Array c.args.scope.now (asked_ty c.args.want) c.in-Array.parts c.in-Array.at) (shifted_args _ _ _ _ _ _ _ (ap Alike c.element_asked.ensures) c.as_slice-in-Array.ensures c.type_array.ensures))
+    rw c.in-Array.is (told_as _ _ _ (expr-Array c.args.scope.now (asked_ty c.args.want) c.in-Array.parts c.in-Array.at) (rw c.as_slice-in-Array.ensures at c.type_array.ensures))
 
 pub type_expr-returns-in-Convert : goal.type_expr-returns-in-Convert
 type_expr-returns-in-Convert t c =
     rw c.in-Convert.is (told_as _ _ _ (expr-Convert c.args.scope.now (asked_ty c.args.want) c.in-Convert.to c.in-Convert.inner c.in-Convert.at) (rw c.get-in-Convert.ensures at c.type_convert.ensures))
+
+pub type_expr-returns-in-Unit : goal.type_expr-returns-in-Unit
+type_expr-returns-in-Unit t c = rw c.in-Unit.is (ap Fine (sym c.constant.ensures))
+
+pub type_expr-returns-in-Bit : goal.type_expr-returns-in-Bit
+type_expr-returns-in-Bit t c = rw c.in-Bit.is (ap Fine (sym c.constant-in-Bit.ensures))
+
+pub type_expr-returns-in-Bool : goal.type_expr-returns-in-Bool
+type_expr-returns-in-Bool t c = rw c.in-Bool.is (ap Fine (sym c.constant-in-Bool.ensures))
