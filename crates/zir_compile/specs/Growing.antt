@@ -41,7 +41,8 @@ pub record Moved (old new : Names) : Type 0 where
 -- a statement has code, by which steps have grown, or has none; the answer is the first free cell behind it
 abbrev pub StatedIf : Scope → Stmt → ℕ → List Step → List Step → Scope → Option ℕ → Type 0
 StatedIf g a d old new g' None = does_code g d a ≡ false
-StatedIf g a d old new g' (Some free) = (does_code g d a ≡ true) × (free ≡ free_after d a) × (g' ≡ scope_after g d a) × (new ≡ old ++ stmt_code g d a)
+StatedIf g a d old new g' (Some free) =
+    (does_code g d a ≡ true) × (free ≡ free_after d a) × (g' ≡ scope_after g d a) × (new ≡ old ++ stmt_code g d a)
 
 -- the same, where its cells have numbers of 32 bits
 abbrev pub Stated : Scope → Stmt → ℕ → List Step → List Step → Scope → Option ℕ → Type 0
@@ -51,8 +52,10 @@ Stated g a d old new g' r = needs_cells g d a < 2 ^ 32 → StatedIf g a d old ne
 abbrev pub RowedIf : Scope → List Stmt → ℕ → List Step → List Step → Scope → Option ℕ → Type 0
 RowedIf g ss d old new g' None = all_code_forms g d ss ≡ false
 RowedIf g ss d old new g' (Some free) =
-    (all_code_forms g d ss ≡ true) × (free ≡ free_after_all d ss) × (g' ≡ scope_after_all g d ss) × (new ≡ old ++ all_code g d ss)
+    (all_code_forms g d ss ≡ true) × (free ≡ free_after_all d ss) × (g' ≡ scope_after_all g d ss) ×
+    (new ≡ old ++ all_code g d ss)
 
+-- the same, where their cells have numbers of 32 bits
 abbrev pub Rowed : Scope → List Stmt → ℕ → List Step → List Step → Scope → Option ℕ → Type 0
 Rowed g ss d old new g' r = all_needs g d ss < 2 ^ 32 → RowedIf g ss d old new g' r
 
@@ -61,14 +64,17 @@ abbrev pub BlockedIf : Scope → List Stmt → ℕ → Option (List Step) → Ty
 BlockedIf g ss d None = all_code_forms g d ss ≡ false
 BlockedIf g ss d (Some steps) = (all_code_forms g d ss ≡ true) × (steps ≡ all_code g d ss)
 
+-- the same, where their cells have numbers of 32 bits
 abbrev pub Blocked : Scope → List Stmt → ℕ → Option (List Step) → Type 0
 Blocked g ss d r = all_needs g d ss < 2 ^ 32 → BlockedIf g ss d r
 
 -- the first index of a loop goes to the cell d and its number of turns to the one behind it
 abbrev pub Ranged : Scope → Expr → Expr → ℕ → List Step → List Step → Bool → Type 0
 Ranged g a n d old new false = is_coded g a && is_coded g n ≡ false
-Ranged g a n d old new true = (is_coded g a && is_coded g n ≡ true) × (max (d + room_of g a) (d + 1 + room_of g n) < 2 ^ 32 →
-    new ≡ old ++ (code_of g a d ++ (Copy (Local d) (stands g a d) ∷ (code_of g n (d + 1) ++ Copy (Local (d + 1)) (stands g n (d + 1)) ∷ []))))
+Ranged g a n d old new true = (is_coded g a && is_coded g n ≡ true) ×
+    (max (d + room_of g a) (d + 1 + room_of g n) < 2 ^ 32 →
+    new ≡ old ++ (code_of g a d ++ (Copy (Local d) (stands g a d)
+    ∷ (code_of g n (d + 1) ++ Copy (Local (d + 1)) (stands g n (d + 1)) ∷ []))))
 
 -- the same is in scope, whatever room there is for more
 pub record Same (old new : Names) : Type 0 where
@@ -84,7 +90,8 @@ index_of id d = record { id = id; spot = Local d; cells = 1; ty = record { lengt
 abbrev pub Chosen : Scope → Expr → Option (List Step) → Option (List Step) → ℕ → List Step → List Step → Option ℕ → Type 0
 Chosen g e first second d old new None = (first ≡ None) ⊎ (second ≡ None) ⊎ (is_coded g e ≡ false)
 Chosen g e first second d old new (Some free) =
-    (a : List Step) × (b : List Step) × (first ≡ Some a) × (second ≡ Some b) × (free ≡ d) × (is_coded g e ≡ true) × (d + room_of g e < 2 ^ 32 →
+    (a : List Step) × (b : List Step) × (first ≡ Some a) × (second ≡ Some b) × (free ≡ d) × (is_coded g e ≡ true) ×
+    (d + room_of g e < 2 ^ 32 →
     new ≡ old ++ (code_of g e d ++ Branch (record { test = stands g e d; first = a; second = b }) ∷ []))
 
 -- the same of a loop with a test
@@ -98,6 +105,8 @@ Turned g e body d old new (Some free) =
 abbrev pub Counted : Scope → Expr → Expr → Option (List Step) → ℕ → List Step → List Step → Option ℕ → Type 0
 Counted g from n body d old new None = (body ≡ None) ⊎ (is_coded g from && is_coded g n ≡ false)
 Counted g from n body d old new (Some free) =
-    (a : List Step) × (body ≡ Some a) × (free ≡ d) × (is_coded g from && is_coded g n ≡ true) × (max (d + room_of g from) (d + 1 + room_of g n) < 2 ^ 32 →
-    new ≡ old ++ (code_of g from d ++ (Copy (Local d) (stands g from d) ∷ (code_of g n (d + 1) ++ (Copy (Local (d + 1)) (stands g n (d + 1))
+    (a : List Step) × (body ≡ Some a) × (free ≡ d) × (is_coded g from && is_coded g n ≡ true) ×
+    (max (d + room_of g from) (d + 1 + room_of g n) < 2 ^ 32 →
+    new ≡ old ++ (code_of g from d ++ (Copy (Local d) (stands g from d)
+    ∷ (code_of g n (d + 1) ++ (Copy (Local (d + 1)) (stands g n (d + 1))
     ∷ Count (record { turns = Local (d + 1); index = Local d; body = a }) ∷ [])))))

@@ -50,11 +50,13 @@ Returned g r d old new true = (returns_coded g r ≡ true) × (result_needs g d 
 abbrev pub BodiedIf : Scope → ℕ → List Stmt → Option Return → Option (List Step) → Type 0
 BodiedIf g d statements r None = body_coded g d statements r ≡ false
 BodiedIf g d statements r (Some steps) =
-    (body_coded g d statements r ≡ true) × (steps ≡ all_code g d statements ++ result_code (scope_after_all g d statements) (free_after_all d statements) r)
+    (body_coded g d statements r ≡ true) ×
+    (steps ≡ all_code g d statements ++ result_code (scope_after_all g d statements) (free_after_all d statements) r)
 
 -- the same, where its cells have numbers of 32 bits
 abbrev pub Bodied : Scope → ℕ → List Stmt → Option Return → Option (List Step) → Type 0
-Bodied g d statements r made = max (all_needs g d statements) (result_needs g (free_after_all d statements) r) < 2 ^ 32 → BodiedIf g d statements r made
+Bodied g d statements r made =
+    max (all_needs g d statements) (result_needs g (free_after_all d statements) r) < 2 ^ 32 → BodiedIf g d statements r made
 
 -- the same top variables and functions, whatever is in scope inside a body
 pub record Below (old new : Names) : Type 0 where
@@ -67,17 +69,21 @@ cells_of g f = body_needs g f.params f.body.statements f.body.result
 
 -- whether calls of a function have code: each parameter has one cell, 32 bits count its cells, and its body has code
 abbrev pub is_signed : Scope → Function → Bool
-is_signed g f = list_all has_one_cell f.params && (nat_lt (cells_of g f) (2 ^ 32) && body_coded (inside g f.params) (length f.params) f.body.statements f.body.result)
+is_signed g f =
+    list_all has_one_cell f.params && (nat_lt (cells_of g f) (2 ^ 32)
+    && body_coded (inside g f.params) (length f.params) f.body.statements f.body.result)
 
 -- the signature of a function with these cells and this code
 abbrev pub with_code : Function → ℕ → List Step → Signature
-with_code f needs steps = record { params = bases_of f.params; result = base_given f.result; needs = needs; code = record { steps = steps } }
+with_code f needs steps =
+    record { params = bases_of f.params; result = base_given f.result; needs = needs; code = record { steps = steps } }
 
--- the signature of a function over what is in scope at the top, where it has one
+-- the signature of a function over what is in scope at the top, or none
 abbrev pub signature_if : Bool → Scope → Function → Option Signature
 signature_if true g f = Some (with_code f (cells_of g f) (body_code g f.params f.body.statements f.body.result))
 signature_if false g f = None
 
+-- the signature of a function where calls of it have code
 abbrev pub signature_of : Scope → Function → Option Signature
 signature_of g f = signature_if (is_signed g f) g f
 
@@ -104,8 +110,11 @@ FineIn tops funs f (Some made) = FineBody (at_top tops funs) made.needs f.params
 abbrev pub FineAfter : List Holder → (ℕ → Option Signature) → ℕ → List Function → Type 0
 FineAfter tops funs n [] = Unit {0}
 FineAfter tops funs n (f ∷ fs) =
-    FineIn tops funs f (signature_of (at_top tops funs) f) × FineAfter tops (one_more_signature funs n (signature_of (at_top tops funs) f)) (suc n) fs
+    FineIn tops funs f (signature_of (at_top tops funs) f) ×
+    FineAfter tops (one_more_signature funs n (signature_of (at_top tops funs) f)) (suc n) fs
 
 -- well typed functions have the signatures that are made for them
 abbrev pub TypedAreSigned : Type 0
-TypedAreSigned = (tops : List Holder) (fs : List Function) → FineAfter tops no_signature 0 fs → HaveSignatures tops no_signature 0 fs (signatures_of tops fs)
+TypedAreSigned =
+    (tops : List Holder) (fs : List Function) → FineAfter tops no_signature 0 fs →
+    HaveSignatures tops no_signature 0 fs (signatures_of tops fs)

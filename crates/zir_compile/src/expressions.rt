@@ -70,15 +70,16 @@ fn operated(
     steps: &mut Vec<Step>,
 ) -> Result<Spot, AllocError>
     ensures spot { IfOk result (λ spot. spot ≡ Spot.Local d) }
-    ensures code { OnOk result (steps.new.items ≡ steps.old.items ++ Operate operation (Spot.Local d) sides.0 sides.1 at ∷ []) }
+    ensures code { OnOk result
+        (steps.new.items ≡ steps.old.items ++ Operate operation (Spot.Local d) sides.0 sides.1 at ∷ []) }
 {
     let (x, y) = sides;
     steps.push(Step::Operate(operation, Spot::Local(d), x, y, at))?;
     Ok(Spot::Local(d))
 }
 
-/// The left side, which stands in a cell, goes to the cell of the answer. Where it is not what decides, these steps follow, which leave the
-/// right side in another cell.
+/// The left side, which stands in a cell, goes to the cell of the answer. Where it is not what decides, these steps follow,
+/// which leave the right side in another cell.
 fn decided(
     alloc: Global,
     either: bool,
@@ -115,8 +116,8 @@ fn decided(
 }
 
 impl Names {
-    /// The code of an expression, whose cells from d on are free. There is none where it has a form that has no code yet, or where its
-    /// cells pass those that 32 bits count.
+    /// The code of an expression, whose cells from d on are free. There is none where it has a form that has no code yet, or
+    /// where its cells pass those that 32 bits count.
     pub fn code(&self, alloc: Global, e: &Expr, d: u32) -> Result<Option<Made>, AllocError>
         ensures { IfOk result (λ made. made ≡ code_if (scope_of self.now) e.now d) }
     {
@@ -210,7 +211,8 @@ impl Names {
         steps: &mut Vec<Step>,
     ) -> Result<Spot, AllocError>
         ensures spot { IfOk result (λ spot. spot ≡ Spot.Local d) }
-        ensures code { OnOk result (steps.new.items ≡ steps.old.items ++ coding.callee_code (scope_of self.now) callee d) }
+        ensures code { OnOk result
+            (steps.new.items ≡ steps.old.items ++ coding.callee_code (scope_of self.now) callee d) }
     {
         if let Callee::Function(k) = callee {
             if let Some(signature) = self.signature(k) {

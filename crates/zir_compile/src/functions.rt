@@ -140,7 +140,8 @@ impl Names {
     /// The signature of a function over the top variables and the functions before it, where calls of it have code.
     fn signature_of(&mut self, alloc: Global, f: &Function) -> Result<Option<Signature>, AllocError>
         ensures below { OnOk result (signing.Below self.old self.new) }
-        ensures made { IfOk result (λ made. made ≡ signing.signature_of (at_top (scope_of self.old).tops (scope_of self.old).funs) f.now) }
+        ensures made { let g = scope_of self.old in
+            IfOk result (λ made. made ≡ signing.signature_of (at_top g.tops g.funs) f.now) }
     {
         let params = f.params.as_slice();
         let count = params.len();
@@ -161,14 +162,15 @@ impl Names {
         }
     }
 
-    /// These top variables and the signatures of these functions, each over those before it. A function that has a form without code, or
-    /// whose cells pass those that 32 bits count, has none.
+    /// These top variables and the signatures of these functions, each over those before it. A function that has a form without
+    /// code, or whose cells pass those that 32 bits count, has none.
     pub fn of_functions(
         alloc: Global,
         tops: Items<Holder>,
         functions: &[Function],
     ) -> Result<Names, AllocError>
-        ensures { IfOk result (λ names. scope_of names ≡ at_top tops (more_signatures signing.no_signature 0 (signing.signatures_of tops functions.now))) }
+        ensures { IfOk result (λ names. scope_of names ≡
+            at_top tops (more_signatures signing.no_signature 0 (signing.signatures_of tops functions.now))) }
     {
         let mut names = Names {
             tops,

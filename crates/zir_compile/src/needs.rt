@@ -52,7 +52,8 @@ impl Names {
 
     /// The cells of a call of a function.
     fn call_needs(&self, k: u32, es: &[Expr], d: u64) -> u64
-        ensures { result ≡ capped (d + max (coding.needs_of ((scope_of self.now).funs k)) (coding.room_in_all (scope_of self.now) es.now)) }
+        ensures { let g = scope_of self.now in
+            result ≡ capped (d + max (coding.needs_of (g.funs k)) (coding.room_in_all g es.now)) }
     {
         self.callee_needs(Callee::Function(k))
             .max(self.rooms(es))
@@ -91,7 +92,8 @@ impl Names {
         }
     }
 
-    /// How many cells there must be for the code of statements, where those from d on are free; numbers above 2^64 - 1 count as that.
+    /// How many cells there must be for the code of statements, where those from d on are free. Numbers above 2^64 - 1 count
+    /// as that.
     #[cycle(needs)]
     pub fn needs(&self, statements: &[Stmt], d: u64) -> u64
         ensures { result ≡ capped (cells.all_needs (scope_of self.now) d statements.now) }

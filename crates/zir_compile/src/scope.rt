@@ -8,8 +8,8 @@ ghost use Rattle.zir_compile.specs.Names.{scope_of, signature_at};
 use sqlite_items::Items;
 use zir_code::scope::{Holder, Signature};
 
-/// The top variables, the names in scope inside the body whose code is made, and the functions before it, each with its signature
-/// where calls of it have code.
+/// The top variables, the names in scope inside the body whose code is made, and the functions before it, each with its
+/// signature where calls of it have code.
 #[derive(Drop)]
 pub struct Names {
     pub tops: Items<Holder>,

@@ -68,8 +68,8 @@ fn counter(alloc: Global, id: u32, d: u32) -> Holder
 }
 
 impl Names {
-    /// The code of statements, whose cells from d on are free. What they declare comes into scope. There is no code, and nothing comes into
-    /// scope, where they have a form that has no code yet, or where their cells pass those that 32 bits count.
+    /// The code of statements, whose cells from d on are free. What they declare comes into scope. There is no code, and nothing
+    /// comes into scope, where they have a form that has no code yet, or where their cells pass those that 32 bits count.
     pub fn statements(
         &mut self,
         alloc: Global,
@@ -148,7 +148,8 @@ impl Names {
         steps: &mut Vec<Step>,
     ) -> Result<Option<u32>, AllocError>
         ensures moved { OnOk result (Moved self.old self.new) }
-        ensures code { IfOk result (Stated (scope_of self.old) (Stmt.Var v.now) d steps.old.items steps.new.items (scope_of self.new)) }
+        ensures code { IfOk result
+            (Stated (scope_of self.old) (Stmt.Var v.now) d steps.old.items steps.new.items (scope_of self.new)) }
     {
         if !has_one_cell(&v.ty) {
             return Ok(None);
@@ -192,7 +193,8 @@ impl Names {
         d: u32,
         steps: &mut Vec<Step>,
     ) -> Result<Option<u32>, AllocError>
-        ensures { IfOk result (let g = scope_of self.now in Stated g (Stmt.Assign name.now path.now e.now) d steps.old.items steps.new.items g) }
+        ensures { let g = scope_of self.now in
+            IfOk result (Stated g (Stmt.Assign name.now path.now e.now) d steps.old.items steps.new.items g) }
     {
         if !path.is_empty() {
             return Ok(None);
@@ -246,7 +248,8 @@ impl Names {
         d: u32,
         steps: &mut Vec<Step>,
     ) -> Result<Option<u32>, AllocError>
-        ensures { IfOk result (let g = scope_of self.now in Stated g (Stmt.Call name.now k es.now) d steps.old.items steps.new.items g) }
+        ensures { let g = scope_of self.now in
+            IfOk result (Stated g (Stmt.Call name.now k es.now) d steps.old.items steps.new.items g) }
     {
         let callee = Callee::Function(k);
         if !self.is_called(callee) || !self.are_coded(es) {
@@ -340,7 +343,8 @@ impl Names {
         }
     }
 
-    /// Adds the code of a statement, where it has one, and answers the first free cell behind it. What it declares comes into scope.
+    /// Adds the code of a statement, where it has one, and answers the first free cell behind it. What it declares comes into
+    /// scope.
     #[cycle(stating)]
     fn statement(
         &mut self,
@@ -350,7 +354,8 @@ impl Names {
         steps: &mut Vec<Step>,
     ) -> Result<Option<u32>, AllocError>
         ensures moved { OnOk result (Moved self.old self.new) }
-        ensures code { IfOk result (Stated (scope_of self.old) a.now d steps.old.items steps.new.items (scope_of self.new)) }
+        ensures code { IfOk result
+            (Stated (scope_of self.old) a.now d steps.old.items steps.new.items (scope_of self.new)) }
     {
         match a {
             Stmt::Var(v) => self.declared(alloc, v, d, steps),
@@ -414,7 +419,8 @@ impl Names {
         steps: &mut Vec<Step>,
     ) -> Result<Option<u32>, AllocError>
         ensures moved { OnOk result (Moved self.old self.new) }
-        ensures code { IfOk result (Rowed (scope_of self.old) statements.now d steps.old.items steps.new.items (scope_of self.new)) }
+        ensures code { IfOk result
+            (Rowed (scope_of self.old) statements.now d steps.old.items steps.new.items (scope_of self.new)) }
     {
         let mut free = d;
         for a in statements {

@@ -24,7 +24,7 @@ use Rattle.zir_compile.specs.Made.{code_if, written}
 use Rattle.zir_eval.specs.declared.evaluation.Stop.{Stop}
 use Rattle.zir_eval.specs.declared.evaluation.Stop.TheVariants.{Trap as ByTrap, Spent}
 
--- an evaluation that stopped ended as this meaning: by the same trap, with the frame then holding what is in scope, or with the budget spent
+-- an evaluation stopped as this meaning: by the same trap, the frame then holding what is in scope, or with the budget spent
 abbrev pub StoppedAs : ℕ → ℕ → ℕ → ℕ → Scope → Memory → State → Eval → Stop → Memory → Type 0
 StoppedAs top base d n g m s (Got v s') stop m' = ⊥
 StoppedAs top base d n g m s (Traps u s') (ByTrap w) m' = (u ≡ w) × Kept top base d g m m' s s' × Holds top base d n g m' s'
@@ -43,13 +43,14 @@ abbrev pub Evaluated : ℕ → ℕ → ℕ → ℕ → Scope → Base → Memory
 Evaluated top base d n g t m s r (Ok x) m' = ValuedAs top base d n g t m s r x m'
 Evaluated top base d n g t m s r (Err stop) m' = StoppedAs top base d n g m s r stop m'
 
--- where functions do what they mean and the frame holds what is in scope, the code of a typed expression for which there is room ends as the expression means
+-- where functions do what they mean and the frame holds what is in scope, the code of a typed expression ends as it means
 abbrev pub Evaluates : Made → ℕ → Memory → Result ℤ Stop → Memory → Type 0
 Evaluates made base m answer m' =
-    (top d n : ℕ) (l : Library) (g : Scope) (t : Base) (e : Expr) (s : State) → Calls top l g.tops g.funs → Has g n t e → d + room_of g e ≤ n →
+    (top d n : ℕ) (l : Library) (g : Scope) (t : Base) (e : Expr) (s : State) → Calls top l g.tops g.funs →
+    Has g n t e → d + room_of g e ≤ n →
     Holds top base d n g m s → Some made ≡ code_if g e d → Evaluated top base d n g t m s (ev l e s) answer m'
 
--- statements that stopped ended as this meaning: by the same trap, with the frame then holding the top variables, or with the budget spent
+-- statements stopped as this meaning: by the same trap, the frame then holding the top variables, or with the budget spent
 abbrev pub HaltedAs : ℕ → ℕ → Scope → Memory → Eval → Stop → Memory → Type 0
 HaltedAs top base g m (Got v s') stop m' = ⊥
 HaltedAs top base g m (Traps u s') (ByTrap w) m' = (u ≡ w) × Stopped top base g.tops m m' s'
@@ -71,19 +72,22 @@ Executed top base d n g m r (Err stop) m' = HaltedAs top base g m r stop m'
 -- the same of well typed statements
 abbrev pub Executes : Written → ℕ → Memory → Result (Unit {0}) Stop → Memory → Type 0
 Executes made base m answer m' =
-    (top d n : ℕ) (l : Library) (g : Scope) (ss : List Stmt) (s : State) → Calls top l g.tops g.funs → FineAll g d n ss → Holds top base d n g m s →
-    Some made ≡ written g ss d → Executed top base (free_after_all d ss) n (scope_after_all g d ss) m (does_all l ss s) answer m'
+    (top d n : ℕ) (l : Library) (g : Scope) (ss : List Stmt) (s : State) → Calls top l g.tops g.funs → FineAll g d n ss →
+    Holds top base d n g m s → Some made ≡ written g ss d →
+    Executed top base (free_after_all d ss) n (scope_after_all g d ss) m (does_all l ss s) answer m'
 
--- what is read of a variable is its value where the frame holds what is in scope, and none is read where it has not one cell
+-- what is read of a variable is its value where the frame holds what is in scope; none is read of one without one cell
 abbrev pub Reads : Scope → ℕ → ℕ → Memory → Option ℤ → Type 0
 Reads g id base m None = reads_one (variable g id) ≡ false
 Reads g id base m (Some x) =
-    (top d n : ℕ) (v : Holder) (t : Base) (s : State) → Holds top base d n g m s → variable g id ≡ Some v → v.ty ≡ record { lengths = []; base = t } → IsScalar t →
+    (top d n : ℕ) (v : Holder) (t : Base) (s : State) → Holds top base d n g m s → variable g id ≡ Some v →
+    v.ty ≡ record { lengths = []; base = t } → IsScalar t →
     IsCell t (look_up s.store id) x
 
 -- a variable gets another value, and the frame then holds it; it stays as it is where there is none of one cell
 abbrev pub Writes : Scope → ℕ → ℤ → ℕ → Memory → Bool → Memory → Type 0
 Writes g id x base m false m' = (reads_one (variable g id) ≡ false) × (m' ≡ m)
 Writes g id x base m true m' =
-    (top d n : ℕ) (v : Holder) (t : Base) (w : Val) (s : State) → Holds top base d n g m s → variable g id ≡ Some v → SoleIn g id v →
-    v.ty ≡ record { lengths = []; base = t } → v.cells ≡ 1 → d ≤ n → IsScalar t → IsCell t w x → Holds top base d n g m' (assign id w s)
+    (top d n : ℕ) (v : Holder) (t : Base) (w : Val) (s : State) → Holds top base d n g m s → variable g id ≡ Some v →
+    SoleIn g id v → v.ty ≡ record { lengths = []; base = t } → v.cells ≡ 1 → d ≤ n → IsScalar t → IsCell t w x →
+    Holds top base d n g m' (assign id w s)

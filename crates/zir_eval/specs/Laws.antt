@@ -10,7 +10,8 @@ use Rattle.zir_eval.specs.Opening.{top_holders, can_open, program_scope, IsBlank
 
 -- a new frame of a program holds the blank value of each top variable, and all cells behind them are free
 abbrev pub BlankFramesHold : Type 0
-BlankFramesHold = (core : Core) (room limit : ℕ) (m : Memory) → room < 2 ^ 32 → can_open core ≡ true → IsBlank core room limit m →
+BlankFramesHold =
+    (core : Core) (room limit : ℕ) (m : Memory) → room < 2 ^ 32 → can_open core ≡ true → IsBlank core room limit m →
     Holds (length core.variables) (length core.variables) 0 room (program_scope core) m (blank_start core limit)
 
 -- the functions of a program do what they mean, where each is well typed in the cells of its signature

@@ -6,6 +6,7 @@ use Rattle.zir_tree.specs.declared.value.Slot.{Slot}
 use Rattle.zir_tree.specs.declared.value.Val.{Val}
 use Rattle.zir_tree.specs.declared.program.Core.{Core}
 use Rattle.zir_meaning.specs.Values.{type_of, blank, blanks_of}
+use Rattle.zir_meaning.specs.Store.{Store}
 use Rattle.zir_meaning.specs.Trace.{State}
 use Rattle.zir_expr.specs.declared.frame.Spot.TheVariants.{Top}
 use Rattle.zir_expr.specs.Memory.{cell_at}
@@ -54,4 +55,6 @@ blank_slots blanks vs = map (λ v. let s : Slot = record { id = v.name.id; value
 
 -- the state of a program whose top variables have their blank values, with so many ticks
 abbrev pub blank_start : Core → ℕ → State
-blank_start core limit = record { taken = 0; ticks = 0; left = limit; store = record { tops = blank_slots (blanks_of core.structs) core.variables; locals = [] } }
+blank_start core limit =
+    let store : Store = record { tops = blank_slots (blanks_of core.structs) core.variables; locals = [] } in
+    record { taken = 0; ticks = 0; left = limit; store = store }

@@ -17,8 +17,8 @@ pub enum Stop {
     Spent,
 }
 
-/// Evaluates an expression by its code, where the cells of the body that runs begin at a base, and answers the cell of its value; it is of no
-/// meaning where the value is unit.
+/// Evaluates an expression by its code, where the cells of the body that runs begin at a base, and answers the cell of its
+/// value, which says nothing where that is unit.
 pub fn eval(made: &Made, frame: &mut Frame, base: usize) -> Result<i64, Stop>
     ensures { Evaluates made.now base frame.old result frame.new }
 {

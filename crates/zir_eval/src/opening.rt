@@ -45,8 +45,8 @@ fn holders(alloc: Global, variables: &[Var]) -> Result<Items<Holder>, AllocError
     Ok(made)
 }
 
-/// What is in scope at the top of a program, with the code of its functions. There is nothing where a top variable has not one cell, or where
-/// 32 bits do not count the top variables.
+/// What is in scope at the top of a program, with the code of its functions. There is nothing where a top variable has not
+/// one cell, or where 32 bits do not count the top variables.
 pub fn names_of(alloc: Global, core: &Core) -> Result<Option<Names>, AllocError>
     ensures { IfOk result (opening.NamedAs core.now) }
 {
@@ -62,7 +62,8 @@ pub fn names_of(alloc: Global, core: &Core) -> Result<Option<Names>, AllocError>
     Ok(Some(names))
 }
 
-/// All cells of a run of a program: those of its top variables, and so many more for the code of a body, which begins behind them. All are 0.
+/// All cells of a run of a program: those of its top variables, and so many more for the code of a body, which begins behind
+/// them. All are 0.
 pub fn frame_of(alloc: Global, core: &Core, room: u32, limit: u64) -> Result<Frame, AllocError>
     ensures { IfOk result (opening.IsBlank core.now room limit) }
 {
