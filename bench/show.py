@@ -49,24 +49,35 @@ def texts():
     }
 
 
-def run(words):
-    """The seconds and the greatest memory in bytes of one run."""
+def seconds(words):
     began = time.perf_counter()
-    process = subprocess.Popen(words, stdin=subprocess.DEVNULL, stdout=subprocess.DEVNULL, stderr=subprocess.DEVNULL)
-    _, _, usage = os.wait4(process.pid, 0)
-    return time.perf_counter() - began, usage.ru_maxrss * 1024
+    subprocess.run(words, stdin=subprocess.DEVNULL, stdout=subprocess.DEVNULL, stderr=subprocess.DEVNULL)
+    return time.perf_counter() - began
+
+
+def memory(words):
+    """The most memory, in MiB, that a program has had when it has filled a pipe with its output, or 0 where the output is short."""
+    child = subprocess.Popen(words, stdin=subprocess.DEVNULL, stdout=subprocess.PIPE, stderr=subprocess.DEVNULL, pipesize=4096)
+    time.sleep(0.2)
+    with open(f"/proc/{child.pid}/status") as status:
+        found = [int(line.split()[1]) for line in status if line.startswith("VmHWM:")]
+    child.communicate()
+    return found[0] / 1024 if found else 0
 
 
 def measured(programs, files):
-    """For each program the shortest time on each file, and its greatest memory on any."""
+    """For each program the shortest time on each file."""
     times = {(name, file): [] for name in programs for file in files}
-    memory = dict.fromkeys(programs, 0)
     for _ in range(RUNS):
         for name, file in times:
-            seconds, size = run(programs[name] + [file])
-            times[name, file].append(seconds)
-            memory[name] = max(memory[name], size)
-    return {key: min(found) for key, found in times.items()}, memory
+            times[name, file].append(seconds(programs[name] + [file]))
+    return {key: min(found) for key, found in times.items()}
+
+
+def part(word, seconds):
+    """A part's time, and its ratio where the plain program takes long enough to tell."""
+    ratio = f"{seconds['ziria'] / seconds['C']:.1f} times plain C" if seconds["C"] > 1e-4 else "too short in C to tell a ratio"
+    return f"{word} {1000 * seconds['ziria']:.2f} ms, {ratio}"
 
 
 def main():
@@ -81,14 +92,11 @@ def main():
             for file, content in zip(files, ("", text[:-1], text)):
                 with open(file, "w") as out:
                     out.write(content)
-            times, memory = measured(programs, files)
+            times = measured(programs, files)
+            most = {name: memory(programs[name] + [files[2]]) for name in programs}
             parsing = {name: times[name, files[1]] - times[name, files[0]] for name in programs}
             printing = {name: times[name, files[2]] - times[name, files[1]] for name in programs}
-            print(
-                f"{title}: parse {1000 * parsing['ziria']:.2f} ms, {parsing['ziria'] / parsing['C']:.1f} times plain C; "
-                f"print {1000 * printing['ziria']:.2f} ms, {printing['ziria'] / max(printing['C'], 1e-6):.1f} times plain C; "
-                f"memory {memory['ziria'] / 2**20:.1f} MiB, {memory['C'] / 2**20:.1f} MiB in C"
-            )
+            print(f"{title}: {part('parse', parsing)}; {part('print', printing)}; memory {most['ziria']:.1f} MiB, {most['C']:.1f} MiB in C")
 
 
 main()
