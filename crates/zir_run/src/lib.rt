@@ -47,28 +47,37 @@ pub fn ziria<H: Shelf, S: Source + Send, K: Sink + Send, N: Sink, G: Gate + Sync
     // 1 comes exactly where the words are of no form.
     ensures bad_words { (result ≡ 1) ↔ AreBad (map string_bytes words.now) }
     // 3 comes only where the shelf failed, or tells its texts and has none of the name, and there always.
-    ensures not_loaded { result ≡ 3 → Rose (H.faults shelf.old) (H.faults shelf.new) ⊎ LacksText (map string_bytes words.now) (H.texts shelf.old) }
+    ensures not_loaded { result ≡ 3
+        → Rose (H.faults shelf.old) (H.faults shelf.new) ⊎ LacksText (map string_bytes words.now) (H.texts shelf.old) }
     ensures absent { LacksText (map string_bytes words.now) (H.texts shelf.old) → result ≡ 3 }
     // 2 comes only where the text is refused for what is asked.
-    ensures refused { (asked : Asked) (text : List ℕ) → result ≡ 2 → Names (map string_bytes words.now) (H.texts shelf.old) asked text
+    ensures refused { (asked : Asked) (text : List ℕ) → result ≡ 2
+        → Names (map string_bytes words.now) (H.texts shelf.old) asked text
         → IsRefused asked text }
     // 0, 2, 4 and 5 come only where the definition says so, and the output and the notes grew by exactly its bytes.
-    ensures ended { (a : Answer) → IsSettled result → Means (map string_bytes words.now) (H.texts shelf.old) (S.left input.old) a
-        → EndsAs result a (K.stands_for out.old) (K.stands_for out.new) (N.stands_for notes.old) (N.stands_for notes.new) }
+    ensures ended { (a : Answer) → IsSettled result
+        → Means (map string_bytes words.now) (H.texts shelf.old) (S.left input.old) a
+        → EndsAs result a (K.stands_for out.old) (K.stands_for out.new)
+        (N.stands_for notes.old) (N.stands_for notes.new) }
     // 7 comes only where a read failed, 8 only where a put failed, of the output or of the notes.
     ensures read_fault { result ≡ 7 → Rose (S.faults input.old) (S.faults input.new) }
-    ensures write_fault { result ≡ 8 → Rose (K.faults out.old) (K.faults out.new) ⊎ Rose (N.faults notes.old) (N.faults notes.new) }
+    ensures write_fault { result ≡ 8
+        → Rose (K.faults out.old) (K.faults out.new) ⊎ Rose (N.faults notes.old) (N.faults notes.new) }
     // At 7, 8 and 9 the output grew by a front part of the definition's bytes.
-    ensures prefix { (a : Answer) → IsBroken result → Means (map string_bytes words.now) (H.texts shelf.old) (S.left input.old) a
+    ensures prefix { (a : Answer) → IsBroken result
+        → Means (map string_bytes words.now) (H.texts shelf.old) (S.left input.old) a
         → GrewPart a.out (K.stands_for out.old) (K.stands_for out.new) }
     // At 8 without a failed put of the output it is whole.
-    ensures whole { (a : Answer) → result ≡ 8 → Means (map string_bytes words.now) (H.texts shelf.old) (S.left input.old) a
+    ensures whole { (a : Answer) → result ≡ 8
+        → Means (map string_bytes words.now) (H.texts shelf.old) (S.left input.old) a
         → Rose (K.faults out.old) (K.faults out.new) ⊎ Grew (K.stands_for out.old) (K.stands_for out.new) a.out }
     // At 8 the notes grew by a front part of the definition's.
-    ensures note_prefix { (a : Answer) → result ≡ 8 → Means (map string_bytes words.now) (H.texts shelf.old) (S.left input.old) a
+    ensures note_prefix { (a : Answer) → result ≡ 8
+        → Means (map string_bytes words.now) (H.texts shelf.old) (S.left input.old) a
         → GrewPart a.notes (N.stands_for notes.old) (N.stands_for notes.new) }
     // Where nothing failed and memory was there, the status is the definition's.
-    ensures complete { (a : Answer) → Means (map string_bytes words.now) (H.texts shelf.old) (S.left input.old) a → IsTold result a }
+    ensures complete { (a : Answer) → Means (map string_bytes words.now) (H.texts shelf.old) (S.left input.old) a
+        → IsTold result a }
     // No other status comes.
     ensures status { IsUnrun result ⊎ IsEnded result ⊎ IsBroken result }
     // At 1, 2 and 3 nothing was read from the input or put on the output, and but for 0, 2, 5 and 8 no note was put.
@@ -101,15 +110,20 @@ fn run_named<H: Shelf, S: Source, K: Sink, N: Sink>(
     notes: &mut N,
 ) -> u8
     requires { ticks ≤ 2 ^ 48 }
-    ensures not_loaded { result ≡ 3 → Rose (H.faults shelf.old) (H.faults shelf.new) ⊎ IsAbsent (H.texts shelf.old) name.now }
+    ensures not_loaded { result ≡ 3
+        → Rose (H.faults shelf.old) (H.faults shelf.new) ⊎ IsAbsent (H.texts shelf.old) name.now }
     ensures absent { IsAbsent (H.texts shelf.old) name.now → result ≡ 3 }
-    ensures refused { (text : List ℕ) → result ≡ 2 → Has (H.texts shelf.old) name.now text → IsRefused (ForRun ticks name.now) text }
+    ensures refused { (text : List ℕ) → result ≡ 2 → Has (H.texts shelf.old) name.now text
+        → IsRefused (ForRun ticks name.now) text }
     ensures keeps { (text : List ℕ) (a : Answer) → Has (H.texts shelf.old) name.now text
         → MeansOf (ForRun ticks name.now) text (S.left input.old) a
-        → Keeps result a (K.stands_for out.old) (K.stands_for out.new) (K.faults out.old) (K.faults out.new) (N.stands_for notes.old) (N.stands_for notes.new) }
+        → Keeps result a
+        (K.stands_for out.old) (K.stands_for out.new) (K.faults out.old) (K.faults out.new)
+        (N.stands_for notes.old) (N.stands_for notes.new) }
     ensures status { (result ≡ 3) ⊎ IsSettled result ⊎ IsBroken result }
     ensures read_fault { result ≡ 7 → Rose (S.faults input.old) (S.faults input.new) }
-    ensures write_fault { result ≡ 8 → Rose (K.faults out.old) (K.faults out.new) ⊎ Rose (N.faults notes.old) (N.faults notes.new) }
+    ensures write_fault { result ≡ 8
+        → Rose (K.faults out.old) (K.faults out.new) ⊎ Rose (N.faults notes.old) (N.faults notes.new) }
     ensures untouched { (result ≡ 2) ⊎ (result ≡ 3) → (input.new ≡ input.old) × (out.new ≡ out.old) }
     ensures quiet { (result ≡ 3) ⊎ IsQuietRun result → notes.new ≡ notes.old }
     ensures texts { H.texts shelf.new ≡ H.texts shelf.old }
@@ -131,14 +145,19 @@ fn show_named<H: Shelf, K: Sink, N: Sink>(
     out: &mut K,
     notes: &mut N,
 ) -> u8
-    ensures not_loaded { result ≡ 3 → Rose (H.faults shelf.old) (H.faults shelf.new) ⊎ IsAbsent (H.texts shelf.old) name.now }
+    ensures not_loaded { result ≡ 3
+        → Rose (H.faults shelf.old) (H.faults shelf.new) ⊎ IsAbsent (H.texts shelf.old) name.now }
     ensures absent { IsAbsent (H.texts shelf.old) name.now → result ≡ 3 }
-    ensures refused { (text : List ℕ) → result ≡ 2 → Has (H.texts shelf.old) name.now text → IsRefused (ForShow name.now) text }
+    ensures refused { (text : List ℕ) → result ≡ 2 → Has (H.texts shelf.old) name.now text
+        → IsRefused (ForShow name.now) text }
     ensures keeps { (text : List ℕ) (left : Option (List ℕ)) (a : Answer) → Has (H.texts shelf.old) name.now text
         → MeansOf (ForShow name.now) text left a
-        → Keeps result a (K.stands_for out.old) (K.stands_for out.new) (K.faults out.old) (K.faults out.new) (N.stands_for notes.old) (N.stands_for notes.new) }
+        → Keeps result a
+        (K.stands_for out.old) (K.stands_for out.new) (K.faults out.old) (K.faults out.new)
+        (N.stands_for notes.old) (N.stands_for notes.new) }
     ensures status { (result ≡ 3) ⊎ (result ≡ 0) ⊎ (result ≡ 2) ⊎ (result ≡ 8) ⊎ (result ≡ 9) }
-    ensures write_fault { result ≡ 8 → Rose (K.faults out.old) (K.faults out.new) ⊎ Rose (N.faults notes.old) (N.faults notes.new) }
+    ensures write_fault { result ≡ 8
+        → Rose (K.faults out.old) (K.faults out.new) ⊎ Rose (N.faults notes.old) (N.faults notes.new) }
     ensures untouched { (result ≡ 2) ⊎ (result ≡ 3) → out.new ≡ out.old }
     ensures quiet { (result ≡ 3) ⊎ (result ≡ 9) → notes.new ≡ notes.old }
     ensures texts { H.texts shelf.new ≡ H.texts shelf.old }

@@ -43,11 +43,14 @@ pub fn run_text<S: Source, K: Sink, N: Sink>(
 ) -> u8
     requires { ticks ≤ 2 ^ 48 }
     ensures keeps { (a : Answer) → MeansOf (ForRun ticks name.now) text.now (S.left input.old) a
-        → Keeps result a (K.stands_for out.old) (K.stands_for out.new) (K.faults out.old) (K.faults out.new) (N.stands_for notes.old) (N.stands_for notes.new) }
+        → Keeps result a
+        (K.stands_for out.old) (K.stands_for out.new) (K.faults out.old) (K.faults out.new)
+        (N.stands_for notes.old) (N.stands_for notes.new) }
     ensures refused { result ≡ 2 → IsRefused (ForRun ticks name.now) text.now }
     ensures statuses { IsSettled result ⊎ IsBroken result }
     ensures read_fault { result ≡ 7 → Rose (S.faults input.old) (S.faults input.new) }
-    ensures write_fault { result ≡ 8 → Rose (K.faults out.old) (K.faults out.new) ⊎ Rose (N.faults notes.old) (N.faults notes.new) }
+    ensures write_fault { result ≡ 8
+        → Rose (K.faults out.old) (K.faults out.new) ⊎ Rose (N.faults notes.old) (N.faults notes.new) }
     ensures untouched { result ≡ 2 → (input.new ≡ input.old) × (out.new ≡ out.old) }
     ensures quiet { IsQuietRun result → notes.new ≡ notes.old }
 {
@@ -70,11 +73,14 @@ fn run_program<S: Source, K: Sink, N: Sink>(
 ) -> u8
     requires { ticks ≤ 2 ^ 48 }
     ensures keeps { (a : Answer) → RunMeans ticks name.now program (S.left input.old) a
-        → Keeps result a (K.stands_for out.old) (K.stands_for out.new) (K.faults out.old) (K.faults out.new) (N.stands_for notes.old) (N.stands_for notes.new) }
+        → Keeps result a
+        (K.stands_for out.old) (K.stands_for out.new) (K.faults out.old) (K.faults out.new)
+        (N.stands_for notes.old) (N.stands_for notes.new) }
     ensures refused { result ≡ 2 → HasFault program }
     ensures statuses { IsSettled result ⊎ IsBroken result }
     ensures read_fault { result ≡ 7 → Rose (S.faults input.old) (S.faults input.new) }
-    ensures write_fault { result ≡ 8 → Rose (K.faults out.old) (K.faults out.new) ⊎ Rose (N.faults notes.old) (N.faults notes.new) }
+    ensures write_fault { result ≡ 8
+        → Rose (K.faults out.old) (K.faults out.new) ⊎ Rose (N.faults notes.old) (N.faults notes.new) }
     ensures untouched { result ≡ 2 → (input.new ≡ input.old) × (out.new ≡ out.old) }
     ensures quiet { IsQuietRun result → notes.new ≡ notes.old }
 {
@@ -94,10 +100,13 @@ pub fn show_text<K: Sink, N: Sink>(
     notes: &mut N,
 ) -> u8
     ensures keeps { (left : Option (List ℕ)) (a : Answer) → MeansOf (ForShow name.now) text.now left a
-        → Keeps result a (K.stands_for out.old) (K.stands_for out.new) (K.faults out.old) (K.faults out.new) (N.stands_for notes.old) (N.stands_for notes.new) }
+        → Keeps result a
+        (K.stands_for out.old) (K.stands_for out.new) (K.faults out.old) (K.faults out.new)
+        (N.stands_for notes.old) (N.stands_for notes.new) }
     ensures refused { result ≡ 2 → IsRefused (ForShow name.now) text.now }
     ensures statuses { (result ≡ 0) ⊎ (result ≡ 2) ⊎ (result ≡ 8) ⊎ (result ≡ 9) }
-    ensures write_fault { result ≡ 8 → Rose (K.faults out.old) (K.faults out.new) ⊎ Rose (N.faults notes.old) (N.faults notes.new) }
+    ensures write_fault { result ≡ 8
+        → Rose (K.faults out.old) (K.faults out.new) ⊎ Rose (N.faults notes.old) (N.faults notes.new) }
     ensures untouched { result ≡ 2 → out.new ≡ out.old }
     ensures quiet { result ≡ 9 → notes.new ≡ notes.old }
 {
@@ -110,8 +119,10 @@ pub fn show_text<K: Sink, N: Sink>(
 
 /// Puts the note on a refused text, and answers the status.
 pub fn refuse<N: Sink>(name: &str, why: &Refusal, notes: &mut N) -> u8
-    ensures noted { result ≡ 2 → Grew (N.stands_for notes.old) (N.stands_for notes.new) (refusal_note name.now why.now) }
-    ensures failed { result ≡ 8 → GrewPart (refusal_note name.now why.now) (N.stands_for notes.old) (N.stands_for notes.new) }
+    ensures noted { result ≡ 2
+        → Grew (N.stands_for notes.old) (N.stands_for notes.new) (refusal_note name.now why.now) }
+    ensures failed { result ≡ 8
+        → GrewPart (refusal_note name.now why.now) (N.stands_for notes.old) (N.stands_for notes.new) }
     ensures fault { result ≡ 8 → Rose (N.faults notes.old) (N.faults notes.new) }
     ensures status { (result ≡ 2) ⊎ (result ≡ 8) }
 {
@@ -123,8 +134,10 @@ pub fn refuse<N: Sink>(name: &str, why: &Refusal, notes: &mut N) -> u8
 
 /// Notes why a text is refused, unless memory ran out, and answers the status.
 fn note<N: Sink>(name: &str, why: &Refusal, notes: &mut N) -> u8
-    ensures noted { result ≡ 2 → Grew (N.stands_for notes.old) (N.stands_for notes.new) (refusal_note name.now why.now) }
-    ensures failed { result ≡ 8 → GrewPart (refusal_note name.now why.now) (N.stands_for notes.old) (N.stands_for notes.new) }
+    ensures noted { result ≡ 2
+        → Grew (N.stands_for notes.old) (N.stands_for notes.new) (refusal_note name.now why.now) }
+    ensures failed { result ≡ 8
+        → GrewPart (refusal_note name.now why.now) (N.stands_for notes.old) (N.stands_for notes.new) }
     ensures fault { result ≡ 8 → Rose (N.faults notes.old) (N.faults notes.new) }
     ensures quiet { result ≡ 9 → notes.new ≡ notes.old }
     ensures verdict { (result ≡ 9) ⊎ IsVerdict (Err why.now) }

@@ -47,14 +47,22 @@ pub fn run<S: Source, K: Sink, N: Sink>(
     notes: &mut N,
 ) -> u8
     requires { ticks ≤ 2 ^ 48 }
-    ensures ended { (bytes : List ℕ) → S.left input.old ≡ Some bytes → IsEnded result → EndsAs result (bits_answer ticks program.now bytes) (K.stands_for out.old) (K.stands_for out.new) (N.stands_for notes.old) (N.stands_for notes.new) }
-    ensures prefix { (bytes : List ℕ) → S.left input.old ≡ Some bytes → IsBroken result → GrewPart (bits_answer ticks program.now bytes).out (K.stands_for out.old) (K.stands_for out.new) }
-    ensures whole { (bytes : List ℕ) → S.left input.old ≡ Some bytes → result ≡ 8 → Rose (K.faults out.old) (K.faults out.new) ⊎ Grew (K.stands_for out.old) (K.stands_for out.new) (bits_answer ticks program.now bytes).out }
-    ensures note_prefix { (bytes : List ℕ) → S.left input.old ≡ Some bytes → result ≡ 8 → GrewPart (bits_answer ticks program.now bytes).notes (N.stands_for notes.old) (N.stands_for notes.new) }
-    ensures told { (bytes : List ℕ) → S.left input.old ≡ Some bytes → IsTold result (bits_answer ticks program.now bytes) }
+    ensures ended { (bytes : List ℕ) → S.left input.old ≡ Some bytes → IsEnded result
+        → EndsAs result (bits_answer ticks program.now bytes)
+        (K.stands_for out.old) (K.stands_for out.new) (N.stands_for notes.old) (N.stands_for notes.new) }
+    ensures prefix { (bytes : List ℕ) → S.left input.old ≡ Some bytes → IsBroken result
+        → GrewPart (bits_answer ticks program.now bytes).out (K.stands_for out.old) (K.stands_for out.new) }
+    ensures whole { (bytes : List ℕ) → S.left input.old ≡ Some bytes → result ≡ 8
+        → Rose (K.faults out.old) (K.faults out.new)
+        ⊎ Grew (K.stands_for out.old) (K.stands_for out.new) (bits_answer ticks program.now bytes).out }
+    ensures note_prefix { (bytes : List ℕ) → S.left input.old ≡ Some bytes → result ≡ 8
+        → GrewPart (bits_answer ticks program.now bytes).notes (N.stands_for notes.old) (N.stands_for notes.new) }
+    ensures told { (bytes : List ℕ) → S.left input.old ≡ Some bytes
+        → IsTold result (bits_answer ticks program.now bytes) }
     ensures statuses { IsEnded result ⊎ IsBroken result }
     ensures read_fault { result ≡ 7 → Rose (S.faults input.old) (S.faults input.new) }
-    ensures write_fault { result ≡ 8 → Rose (K.faults out.old) (K.faults out.new) ⊎ Rose (N.faults notes.old) (N.faults notes.new) }
+    ensures write_fault { result ≡ 8
+        → Rose (K.faults out.old) (K.faults out.new) ⊎ Rose (N.faults notes.old) (N.faults notes.new) }
     ensures quiet { IsQuietRun result → notes.new ≡ notes.old }
 {
     let Ok(mut machine) = prepare(alloc, &program.main, ticks) else {
@@ -81,9 +89,14 @@ fn prepare(alloc: Global, main: &Comp, ticks: u64) -> Result<Machine, AllocError
 /// Puts the note on how a run ended, but none at a trap, and answers its status.
 fn report<N: Sink>(outcome: &Outcome, machine: &Machine, ticks: u64, notes: &mut N) -> u8
     requires { outcome.now.end ≡ Ended.Value → ⟦<Machine as Worker>⟧.last machine.now ≡ Some Done }
-    ensures ended { (t : Trace) → IsEnded result → TellsRun (⟦<Machine as Worker>⟧.stands_for machine.now) outcome.now t → Grew (N.stands_for notes.old) (N.stands_for notes.new) (note_over ticks t) }
-    ensures failed { (t : Trace) → result ≡ 8 → TellsRun (⟦<Machine as Worker>⟧.stands_for machine.now) outcome.now t → GrewPart (note_over ticks t) (N.stands_for notes.old) (N.stands_for notes.new) }
-    ensures told { (t : Trace) → TellsRun (⟦<Machine as Worker>⟧.stands_for machine.now) outcome.now t → (result ≡ status_over t) ⊎ (result ≡ 8) }
+    ensures ended { (t : Trace) → IsEnded result
+        → TellsRun (⟦<Machine as Worker>⟧.stands_for machine.now) outcome.now t
+        → Grew (N.stands_for notes.old) (N.stands_for notes.new) (note_over ticks t) }
+    ensures failed { (t : Trace) → result ≡ 8
+        → TellsRun (⟦<Machine as Worker>⟧.stands_for machine.now) outcome.now t
+        → GrewPart (note_over ticks t) (N.stands_for notes.old) (N.stands_for notes.new) }
+    ensures told { (t : Trace) → TellsRun (⟦<Machine as Worker>⟧.stands_for machine.now) outcome.now t
+        → (result ≡ status_over t) ⊎ (result ≡ 8) }
     ensures statuses { IsEnded result ⊎ (result ≡ 8) }
     ensures fault { result ≡ 8 → Rose (N.faults notes.old) (N.faults notes.new) }
     ensures quiet { result ≡ 4 → notes.new ≡ notes.old }
@@ -100,7 +113,8 @@ fn report<N: Sink>(outcome: &Outcome, machine: &Machine, ticks: u64, notes: &mut
 /// How a run ended, where a note tells of it: at each end but a trap.
 fn ending_of(end: Ended, machine: &Machine) -> Option<Ending>
     requires { end ≡ Ended.Value → ⟦<Machine as Worker>⟧.last machine.now ≡ Some Done }
-    ensures { (t : Trace) → TellsEnd end t.end → OwnValue (⟦<Machine as Worker>⟧.stands_for machine.now) t → IsNoteOf result (run_end RunEnded t.end) }
+    ensures { (t : Trace) → TellsEnd end t.end → OwnValue (⟦<Machine as Worker>⟧.stands_for machine.now) t
+        → IsNoteOf result (run_end RunEnded t.end) }
 {
     match end {
         Ended::Value => Some(Ending::Value(machine.value())),
