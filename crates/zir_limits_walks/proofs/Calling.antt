@@ -1,5 +1,5 @@
 -- The first call that is too deep is that of the definition.
-use Rattle.std.specs.Prelude.{◌≡◌, ℕ, zero, suc, ◌+◌, ◌<◌, ◌≤◌, min, List, [], ◌∷◌, ◌++◌, length, replicate, Option, Some, None, slice_index, refl}
+use Rattle.std.specs.Prelude.{◌≡◌, ℕ, suc, ◌+◌, ◌<◌, ◌≤◌, min, List, [], ◌∷◌, ◌++◌, length, replicate, Option, Some, None, slice_index, refl}
 use Rattle.std.proofs.Common.{ap, ◌∙◌, sym, subst, arith, append_assoc}
 use Rattle.std.proofs.lemmas.Grind.{common_steps}
 use Rattle.std.proofs.lemmas.List.{get_or-replicate, length-replicate}
@@ -10,7 +10,7 @@ use Rattle.zir_tree.specs.declared.program.Prog.{Prog}
 use Rattle.zir_tree.specs.declared.program.Core.{Core}
 use Rattle.zir_types.specs.Scope.{Visible}
 use Rattle.zir_types.specs.Known.{seen_vars, visible_of}
-use Rattle.zir_types.specs.Measures.{Target, ToFunction, ToInstance, Measure, in_comp}
+use Rattle.zir_types.specs.Measures.{ToFunction, ToInstance, Measure, in_comp}
 use Rattle.zir_types.specs.Limits.{Calling, Depths, depth_of, deepened, deep_calls, too_deep, calling_functions, calling_instances, callers, first_place}
 use Rattle.zir_types.specs.Limits.{in_function, in_instance, in_vars}
 use Rattle.zir_limits.specs.declared.notes.Call.{Call}
@@ -20,7 +20,7 @@ use Rattle.zir_limits.proofs.Noted.{first_of-more}
 use Rattle.zir_limits.proofs.Order.{first_of-none}
 use Rattle.zir_limits_walks.specs.declared.depth.Levels.{Levels}
 use Rattle.zir_limits_walks.specs.declared.found.Measured.{Measured}
-use Rattle.zir_limits_walks.specs.Bodies.{function_calls, instance_calls, main_measures, measured, facts_of}
+use Rattle.zir_limits_walks.specs.Bodies.{function_calls, instance_calls, measured, facts_of}
 use Rattle.zir_limits_walks.specs.Depths.{entered, raised_at, raised, functions_entered, instances_entered, uncalled, deep_in}
 use Rattle.zir_limits_walks.proofs.DepthLaws.{Agrees, entered_agrees, entered_deep}
 use Rattle.zir_limits_walks.proofs.Firsts.{calls-function, calls-instance, calls-main}

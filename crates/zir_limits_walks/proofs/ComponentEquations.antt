@@ -1,6 +1,6 @@
 -- The equations of components at the trees that code has.
-use Rattle.std.specs.Prelude.{◌≡◌, ℕ, suc, ◌+◌, min, max, List, [], ◌∷◌, ◌++◌, Option, Some, None, nat_eq, refl}
-use Rattle.std.proofs.Common.{ap, ◌∙◌, sym, append_assoc, append-nil, arith}
+use Rattle.std.specs.Prelude.{◌≡◌, ℕ, suc, ◌+◌, max, List, [], ◌∷◌, ◌++◌, Option, Some, None, refl}
+use Rattle.std.proofs.Common.{ap, ◌∙◌, sym, append-nil, arith}
 use denote.Hole.Carrier.{hidden}
 use Rattle.zir_tree.specs.declared.ident.Ident.{Ident}
 use Rattle.zir_tree.specs.declared.place.Place.{Place}
@@ -15,16 +15,16 @@ use Rattle.zir_tree.specs.declared.comp.Comp.TheBlock.{shape-the_row-Comp-0, hid
 use Rattle.zir_tree.specs.declared.comp.Member.{Member, Bind, Var, Run}
 use Rattle.zir_types.specs.declared.scope.Seen.{Seen}
 use Rattle.zir_types.specs.Kinds.{scalar}
-use Rattle.zir_types.specs.Scope.{Visible, variable, cells_in}
+use Rattle.zir_types.specs.Scope.{cells_in}
 use Rattle.zir_types.specs.Statements.{with_index}
 use Rattle.zir_types.specs.Components.{link_type}
-use Rattle.zir_types.specs.Known.{Kind, kind_of, members_kind, computer, first_some, or_unit, seen_in}
+use Rattle.zir_types.specs.Known.{Kind, kind_of, members_kind, first_some, or_unit, seen_in}
 use Rattle.zir_types.specs.Needs.{Sums, counted, expr_need, comp_need, members_sums, sums_need, var_cells, initial_need}
 use Rattle.zir_types.specs.Measures.{in_expr, in_comp, in_members, in_link, in_var, links}
 use Rattle.zir_limits_walks.specs.declared.found.Walked.{Walked}
 use Rattle.zir_limits_walks.specs.declared.found.Members.{Members}
 use Rattle.zir_limits.specs.Facts.{CoreFacts, sight, needs_in}
-use Rattle.zir_limits_walks.specs.Components.{walked, member_next, member_seen, member_measures, members_next, members_measures}
+use Rattle.zir_limits_walks.specs.Components.{walked, member_next, member_seen, members_next, members_measures}
 
 -- types and a need
 abbrev pub found : Option Ty → Option Ty → ℕ → Walked

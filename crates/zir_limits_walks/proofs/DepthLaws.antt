@@ -1,6 +1,6 @@
 -- The depths that the code counts are those of the definition, up to 17.
-use Rattle.std.specs.Prelude.{◌≡◌, ℕ, suc, ◌<◌, min, max, List, [], ◌∷◌, ◌++◌, length, Option, Bool, true, false, nat_eq, nat_lt, slice_index, slice_set, if◌then◌else◌, refl}
-use Rattle.std.proofs.Common.{ap, ◌∙◌, sym, subst, arith}
+use Rattle.std.specs.Prelude.{◌≡◌, ℕ, ◌<◌, min, max, List, [], ◌∷◌, ◌++◌, length, Option, Bool, true, false, nat_eq, nat_lt, slice_index, if◌then◌else◌, refl}
+use Rattle.std.proofs.Common.{ap, ◌∙◌, subst, arith}
 use Rattle.std.proofs.lemmas.Grind.{common_steps}
 use Rattle.std.proofs.lemmas.Bool.Decides.{nat_tests}
 use Rattle.zir_tree.specs.declared.place.Place.{Place}
@@ -8,7 +8,7 @@ use Rattle.zir_types.specs.Measures.{Target, ToFunction, ToInstance, Measure, Sp
 use Rattle.zir_types.specs.Limits.{Depths, same_target, deepened, deep_calls, wrong_at}
 use Rattle.zir_limits.specs.Notes.{calls_in, first_of, marks, target_of}
 use Rattle.zir_limits_walks.specs.declared.depth.Levels.{Levels}
-use Rattle.zir_limits_walks.specs.Depths.{raised_at, raised_by, raised, entered}
+use Rattle.zir_limits_walks.specs.Depths.{raised_at, raised_by, entered}
 
 -- the numbers of the code are the depths of the definition, up to 17
 pub record Agrees (l : Levels) (d : Depths) : Type 0 where

@@ -1,5 +1,5 @@
 -- Two components, one after the other.
-use Rattle.std.specs.Prelude.{◌≡◌, ℕ, List, ◌++◌, Result, Ok, Err}
+use Rattle.std.specs.Prelude.{◌≡◌, List, ◌++◌, Result, Ok, Err}
 use Rattle.std.proofs.Common.{ap, ◌∙◌, sym}
 use Rattle.std.specs.declared.alloc.AllocError.{AllocError}
 use Rattle.zir_tree.specs.declared.place.Place.{Place}

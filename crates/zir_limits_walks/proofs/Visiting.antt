@@ -1,16 +1,15 @@
 -- Functions and instances visited one after the other.
-use Rattle.std.specs.Prelude.{◌≡◌, ℕ, List, [], ◌∷◌, ◌++◌, refl}
-use Rattle.std.proofs.Common.{ap, ◌∙◌, sym, append_assoc, append-nil}
+use Rattle.std.specs.Prelude.{◌≡◌, ℕ, List, [], ◌∷◌, ◌++◌}
+use Rattle.std.proofs.Common.{ap, ◌∙◌, sym, append_assoc}
 use Rattle.zir_tree.specs.declared.program.Function.{Function}
 use Rattle.zir_tree.specs.declared.program.Instance.{Instance}
 use Rattle.zir_types.specs.declared.scope.Seen.{Seen}
 use Rattle.zir_types.specs.Scope.{Visible}
-use Rattle.zir_types.specs.Measures.{Measure}
 use Rattle.zir_types.specs.Limits.{in_functions, in_instances}
 use Rattle.zir_limits.specs.declared.notes.Call.{Call}
 use Rattle.zir_limits.specs.declared.notes.Notes.{Notes}
 use Rattle.zir_limits.specs.Facts.{CoreFacts, sight}
-use Rattle.zir_limits.specs.Notes.{noted, calls_in}
+use Rattle.zir_limits.specs.Notes.{calls_in}
 use Rattle.zir_limits_walks.specs.declared.found.Visited.{Visited}
 use Rattle.zir_limits_walks.specs.Bodies.{firsts, function_measures, instance_measures, function_need, instance_need, functions_known, instances_known, function_calls, instance_calls}
 use Rattle.zir_limits_walks.proofs.Firsts.{firsts-more}

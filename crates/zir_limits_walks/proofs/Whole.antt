@@ -1,5 +1,5 @@
 -- What is found of a program says its first limit.
-use Rattle.std.specs.Prelude.{◌≡◌, ℕ, ◌+◌, List, [], ◌∷◌, ◌++◌, Bool, true, false, Option, Some, None, nat_lt, refl}
+use Rattle.std.specs.Prelude.{◌≡◌, ℕ, ◌+◌, List, ◌∷◌, ◌++◌, Bool, true, false, Option, None, nat_lt, refl}
 use Rattle.std.proofs.Common.{ap, ◌∙◌, sym, append_assoc}
 use Rattle.zir_tree.specs.declared.place.Place.{Place}
 use Rattle.zir_tree.specs.declared.program.Prog.{Prog}
@@ -10,7 +10,7 @@ use Rattle.zir_types.specs.Scope.{Visible, cells_in}
 use Rattle.zir_types.specs.Known.{seen_vars, visible_of}
 use Rattle.zir_types.specs.Needs.{counted, comp_need, vars_cells, program_need}
 use Rattle.zir_types.specs.Measures.{Measure, Sends, in_type, in_comp}
-use Rattle.zir_types.specs.Limits.{Passed, passed_at, wrong_at, first_place, places, bad_length, too_large, too_wide, too_long, too_deep, callers, measures, limits}
+use Rattle.zir_types.specs.Limits.{Passed, passed_at, wrong_at, first_place, places, bad_length, too_large, too_wide, too_long, measures, limits}
 use Rattle.zir_types.specs.Limits.{in_structs, in_vars, in_functions, in_instances}
 use Rattle.zir_limits.specs.declared.notes.Notes.{Notes}
 use Rattle.zir_limits.specs.Facts.{CoreFacts, sight, needs_in}
@@ -20,7 +20,7 @@ use Rattle.zir_limits.specs.declared.notes.Call.{Call}
 use Rattle.zir_limits_walks.specs.declared.found.Measured.{Measured}
 use Rattle.zir_limits_walks.specs.declared.found.Tops.{Tops}
 use Rattle.zir_limits_walks.specs.Answers.{in_order}
-use Rattle.zir_limits_walks.specs.Bodies.{firsts, main_measures, bodies_noted, facts_of, known_of, measured}
+use Rattle.zir_limits_walks.specs.Bodies.{firsts, main_measures, facts_of, known_of, measured}
 use Rattle.zir_limits_walks.specs.Depths.{deep_in}
 use Rattle.zir_limits_walks.proofs.Firsts.{firsts-more, firsts-noted}
 use Rattle.zir_limits_walks.proofs.Needing.{known_keep, needs_known}

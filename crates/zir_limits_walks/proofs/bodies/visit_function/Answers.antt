@@ -1,13 +1,13 @@
-use Rattle.std.proofs.Common.{◌≡◌, ◌∙◌, ap, sym, ℕ, List, [], ◌∷◌, ◌++◌, take, length}
+use Rattle.std.proofs.Common.{◌≡◌, ◌∙◌, ap, List, ◌++◌, take}
 use Rattle.zir_tree.specs.declared.program.Function.{Function}
 use Rattle.zir_types.specs.declared.scope.Seen.{Seen}
 use Rattle.zir_types.specs.Scope.{Visible}
 use Rattle.zir_types.specs.Known.{seen_fields}
 use Rattle.zir_types.specs.Measures.{in_body}
-use Rattle.zir_types.specs.Needs.{with_call, body_need}
+use Rattle.zir_types.specs.Needs.{with_call}
 use Rattle.zir_types.specs.Limits.{in_fields, in_result, in_function}
 use Rattle.zir_limits.specs.declared.notes.Notes.{Notes}
-use Rattle.zir_limits.specs.Facts.{CoreFacts, told, sight, needs_in}
+use Rattle.zir_limits.specs.Facts.{CoreFacts, told, sight}
 use Rattle.zir_limits.specs.Notes.{noted}
 use Rattle.zir_limits.proofs.Noted.{noted_three}
 use Rattle.zir_limits_walks.specs.Bodies.{function_measures}

@@ -1,4 +1,4 @@
-use Rattle.std.proofs.Common.{◌≡◌, ◌∙◌, ap, sym, ℕ, List, [], ◌∷◌, ◌++◌, take, length}
+use Rattle.std.proofs.Common.{◌≡◌, ◌∙◌, ap, List, ◌++◌, take}
 use Rattle.zir_tree.specs.declared.program.Instance.{Instance}
 use Rattle.zir_types.specs.declared.scope.Seen.{Seen}
 use Rattle.zir_types.specs.Scope.{Visible}

@@ -1,4 +1,4 @@
-use Rattle.std.proofs.Common.{◌∙◌, ◌+◌, ◌++◌, ◌∷◌, [], ap, sym, subst, List, drop}
+use Rattle.std.proofs.Common.{◌+◌, sym, subst, List, drop}
 use Rattle.zir_tree.specs.declared.program.Instance.{Instance}
 use Rattle.zir_types.specs.declared.scope.Seen.{Seen}
 use Rattle.zir_limits.specs.declared.notes.Call.{Call}

@@ -1,4 +1,4 @@
-use Rattle.std.proofs.Common.{◌≡◌, ◌∙◌, ap, sym, ℕ, List, [], ◌∷◌, ◌++◌}
+use Rattle.std.proofs.Common.{◌≡◌, ◌∙◌, ap, List, [], ◌∷◌}
 use Rattle.zir_tree.specs.declared.program.Prog.{Prog}
 use Rattle.zir_tree.specs.declared.program.Core.{Core}
 use Rattle.zir_types.specs.declared.scope.Seen.{Seen}
@@ -8,7 +8,6 @@ use Rattle.zir_limits.specs.declared.notes.Notes.{Notes}
 use Rattle.zir_limits.specs.Facts.{CoreFacts, told, sight}
 use Rattle.zir_limits.specs.Notes.{noted}
 use Rattle.zir_limits.proofs.Noted.{noted_two, noted_three}
-use Rattle.zir_limits.proofs.Rows.{cells_same}
 use Rattle.zir_limits_walks.specs.declared.found.Walked.{Walked}
 use Rattle.zir_limits_walks.specs.Bodies.{main_measures}
 use Rattle.zir_limits_walks.proofs.Visiting.{visiting, hushed}

@@ -1,4 +1,4 @@
-use Rattle.std.proofs.Common.{◌≡◌, ◌∙◌, ap, sym, subst, List, [], ◌∷◌, ◌++◌, ◌+◌, max, drop, take, length, append-nil, append_assoc, ◌≤◌, arith, refl}
+use Rattle.std.proofs.Common.{◌≡◌, ◌∙◌, ap, sym, subst, List, [], ◌∷◌, ◌++◌, ◌+◌, max, drop, take, length, append-nil, append_assoc, ◌≤◌, arith}
 use Rattle.std.specs.Prelude.{Some, None}
 use Rattle.zir_tree.specs.declared.types.Ty.{Ty}
 use Rattle.zir_tree.specs.declared.comp.Comp.{Comp, Repeat, While, Times, For, If, Call, Block, Pipe}
@@ -8,12 +8,11 @@ use Rattle.zir_types.specs.declared.scope.Seen.{Seen}
 use Rattle.zir_types.specs.Kinds.{scalar}
 use Rattle.zir_types.specs.Scope.{Visible, variable, cells_in}
 use Rattle.zir_types.specs.Known.{first_some, or_unit}
-use Rattle.zir_types.specs.Components.{link_type}
-use Rattle.zir_types.specs.Needs.{counted, expr_need}
+use Rattle.zir_types.specs.Needs.{counted}
 use Rattle.zir_types.specs.Measures.{in_expr, in_comp, in_link, links}
 use Rattle.zir_limits_walks.specs.declared.found.Walked.{Walked}
 use Rattle.zir_limits_walks.specs.declared.found.Members.{Members}
-use Rattle.zir_limits.specs.Facts.{CoreFacts, told, sight, needs_in}
+use Rattle.zir_limits.specs.Facts.{CoreFacts, told, sight}
 use Rattle.zir_limits.specs.Notes.{noted}
 use Rattle.zir_limits_walks.proofs.Joining.{led_by, if_whole, pipe_whole}
 use Rattle.zir_limits_walks.specs.Components.{walked, either, piped, Walks, member_seen, member_measures, members_next, members_measures}

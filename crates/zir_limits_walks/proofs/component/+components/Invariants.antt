@@ -1,6 +1,6 @@
 use Rattle.std.proofs.Common.{◌≡◌, ◌++◌, List, drop}
 use Rattle.zir_types.specs.declared.scope.Seen.{Seen}
-use Rattle.zir_limits.specs.Facts.{told, sight}
+use Rattle.zir_limits.specs.Facts.{told}
 use Rattle.zir_limits.specs.Notes.{noted}
 use Rattle.zir_limits_walks.specs.Components.{members_next, members_measures}
 use Rattle.zir_limits_walks.proofs.component.+components.Given as goal

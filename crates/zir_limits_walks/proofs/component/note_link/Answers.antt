@@ -1,4 +1,4 @@
-use Rattle.std.proofs.Common.{◌≡◌, ◌∙◌, ap, sym, arith}
+use Rattle.std.proofs.Common.{◌∙◌, ap, sym}
 use Rattle.zir_types.specs.Measures.{in_link, links}
 use Rattle.zir_limits.specs.Notes.{noted}
 use Rattle.zir_limits.proofs.Noted.{noted-none}

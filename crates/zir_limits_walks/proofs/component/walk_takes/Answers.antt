@@ -1,13 +1,8 @@
-use Rattle.std.proofs.Common.{◌≡◌, ◌∙◌, ap, sym, List, [], ◌∷◌, ◌++◌, ◌+◌, refl}
+use Rattle.std.proofs.Common.{◌≡◌, ◌∙◌, ap, [], ◌∷◌, refl}
 use Rattle.std.specs.Prelude.{Some, None}
-use Rattle.zir_tree.specs.declared.types.Ty.{Ty}
-use Rattle.zir_types.specs.declared.scope.Seen.{Seen}
 use Rattle.zir_types.specs.Kinds.{arr}
-use Rattle.zir_types.specs.Scope.{Visible}
-use Rattle.zir_types.specs.Known.{type_of, element_of}
-use Rattle.zir_types.specs.Needs.{counted}
-use Rattle.zir_types.specs.Measures.{Spans, Holds, Sends, Calls, ToFunction, ToInstance, in_expr, in_exprs}
-use Rattle.zir_limits.specs.Facts.{CoreFacts, told, sight}
+use Rattle.zir_types.specs.Measures.{Spans, Holds}
+use Rattle.zir_limits.specs.Facts.{CoreFacts, told}
 use Rattle.zir_limits.specs.Notes.{noted}
 use Rattle.zir_limits.proofs.Noted.{noted_two}
 use Rattle.zir_limits.proofs.Rows.{cells_same}

@@ -1,9 +1,7 @@
-use Rattle.std.proofs.Common.{◌≡◌, ◌∙◌, ap, refl, ◌+◌, max, arith}
+use Rattle.std.proofs.Common.{◌∙◌, ap, refl, ◌+◌, max}
 use Rattle.std.specs.Prelude.{Some}
 use Rattle.zir_types.specs.Known.{ty_of}
-use Rattle.zir_types.specs.Scope.{cells_in}
 use Rattle.zir_types.specs.Needs.{counted}
-use Rattle.zir_limits.specs.Facts.{told}
 use Rattle.zir_limits.proofs.Rows.{cells_same}
 use Rattle.zir_limits_walks.proofs.ComponentEquations.{known}
 use Rattle.zir_limits_walks.proofs.component.walk_var.Goals as goal

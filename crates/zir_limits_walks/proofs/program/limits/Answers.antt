@@ -1,4 +1,4 @@
-use Rattle.std.proofs.Common.{◌≡◌, ◌∙◌, ap, sym, subst}
+use Rattle.std.proofs.Common.{◌∙◌, ap, subst}
 use Rattle.zir_tree.specs.declared.program.Prog.{Prog}
 use Rattle.zir_tree.specs.declared.program.Core.{Core}
 use Rattle.zir_limits_walks.specs.declared.found.Measured.{Measured}

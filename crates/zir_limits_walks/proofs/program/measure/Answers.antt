@@ -1,4 +1,4 @@
-use Rattle.std.proofs.Common.{◌≡◌, ◌∙◌, ap, sym, List, [], ◌++◌, ◌+◌}
+use Rattle.std.proofs.Common.{◌≡◌, ◌∙◌, ap, List, ◌++◌, ◌+◌}
 use Rattle.zir_tree.specs.declared.program.Prog.{Prog}
 use Rattle.zir_tree.specs.declared.program.Core.{Core}
 use Rattle.zir_types.specs.declared.scope.Seen.{Seen}

@@ -1,7 +1,6 @@
-use Rattle.std.proofs.Common.{◌≡◌, ◌∙◌, ap, List, ◌++◌}
+use Rattle.std.proofs.Common.{◌≡◌, ◌∙◌, ap, ◌++◌}
 use Rattle.zir_tree.specs.declared.program.Prog.{Prog}
 use Rattle.zir_tree.specs.declared.program.Core.{Core}
-use Rattle.zir_types.specs.declared.scope.Seen.{Seen}
 use Rattle.zir_types.specs.Scope.{Visible}
 use Rattle.zir_types.specs.Known.{seen_vars}
 use Rattle.zir_types.specs.Limits.{in_structs, in_vars}

@@ -5,7 +5,7 @@ use Rattle.zir_tree.specs.declared.stmt.Stmt.{Stmt}
 use Rattle.zir_types.specs.Known.{seen_stmts}
 use Rattle.zir_types.specs.Scope.{Visible}
 use Rattle.zir_types.specs.Statements.{with_index}
-use Rattle.zir_types.specs.Measures.{Measure, Calls, ToFunction, in_expr, in_exprs, in_path, in_stmt, in_list, seen_stmt}
+use Rattle.zir_types.specs.Measures.{Calls, ToFunction, in_expr, in_exprs, in_path, in_stmt, in_list, seen_stmt}
 use Rattle.zir_limits.specs.Facts.{CoreFacts, told, sight}
 use Rattle.zir_limits.specs.Notes.{noted}
 use Rattle.zir_limits.proofs.Noted.{always, on_ok, carried_two, noted_two, noted_next, noted-none}

@@ -1,4 +1,4 @@
-use Rattle.std.proofs.Common.{◌≡◌, ◌∙◌, ◌+◌, ap, sym, List, [], ◌∷◌, ◌++◌, drop}
+use Rattle.std.proofs.Common.{◌≡◌, ◌∙◌, ◌+◌, ap, sym, List, [], ◌∷◌, drop}
 use Rattle.zir_tree.specs.declared.program.Decl.TheVariants.{Struct}
 use Rattle.zir_types.specs.declared.scope.Shape.{Shape}
 use Rattle.zir_types.specs.Measures.{Measure, Holds}
