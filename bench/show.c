@@ -260,6 +260,15 @@ static void bounds(struct node *node)
     want("]");
 }
 
+/* The head of a loop that counts, behind its word. */
+static struct node *counted(void)
+{
+    struct node *node = make(FOR, want_kind('n'));
+    want("in");
+    bounds(node);
+    return node;
+}
+
 static struct node *condition(enum form form, struct token token)
 {
     struct node *node = make(form, token);
@@ -288,9 +297,7 @@ static struct node *statement(void)
         return add(node, statements());
     }
     if (eat("for")) {
-        struct node *node = make(FOR, want_kind('n'));
-        want("in");
-        bounds(node);
+        struct node *node = counted();
         return add(node, statements());
     }
     token = want_kind('n');
@@ -375,9 +382,7 @@ static struct node *atom(void)
         return add(node, atom());
     }
     if (eat("for")) {
-        struct node *node = make(FOR, want_kind('n'));
-        want("in");
-        bounds(node);
+        struct node *node = counted();
         return add(node, atom());
     }
     if (eat("if")) {
