@@ -1,0 +1,9 @@
+pub mod Found
+pub mod Rows
+pub mod Statements
+pub mod Fronts
+pub mod Trees
+pub mod Making
+pub mod Components
+pub mod Cores
+pub mod Numbers

@@ -1,0 +1,4 @@
+pub mod Statements
+pub mod Components
+pub mod Cores
+pub mod Laws
