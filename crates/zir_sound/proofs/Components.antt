@@ -115,18 +115,18 @@ repeat_sound top g cs a is p s r fits h =
     let c = held (Components.is_unit s) (NotUnit p) made r h in
     let unit : s.what.value ≡ Components.unit_value = same_option_is s.what.value Components.unit_value c.0 in
     over top g g cs a is s r made fits refl (is-Repeat g s.instances a s.what.what p s.what.emits (subst
-        (IsComp g s.instances a s.what.what s.what.emits) unit fits.typed)) c.1
+    (IsComp g s.instances a s.what.what s.what.emits) unit fits.typed)) c.1
 
 -- The body of a loop is a computer of unit, and the loop is one whose condition or bounds are right.
 loop_is : (right : Bool) (p : Place) (c : Comp) (s r : Components.Reached) → Components.loop_of right p c s ≡ Fine r →
     (right ≡ true) × (s.what.value ≡ Components.unit_value) × (Components.reached c s.what.emits Components.unit_value s.instances ≡ r)
 loop_is right p c s r h =
     let f = first_fine (check right (Mismatch p) s) (λ q. check (Components.is_unit q) (NotUnit p)
-        (Components.reached c q.what.emits Components.unit_value q.instances)) r h in
+    (Components.reached c q.what.emits Components.unit_value q.instances)) r h in
     let d = held right (Mismatch p) s f.0 f.1 in
     let e : check (Components.is_unit s) (NotUnit p) (Components.reached c s.what.emits Components.unit_value s.instances) ≡ Fine r =
     subst (λ (q : Components.Reached). check (Components.is_unit q) (NotUnit p)
-        (Components.reached c q.what.emits Components.unit_value q.instances) ≡ Fine r) (sym d.1) f.2 in
+    (Components.reached c q.what.emits Components.unit_value q.instances) ≡ Fine r) (sym d.1) f.2 in
     let k = held (Components.is_unit s) (NotUnit p) (Components.reached c s.what.emits Components.unit_value s.instances) r e in
     (d.0, same_option_is s.what.value Components.unit_value k.0, k.1)
 
@@ -148,7 +148,7 @@ if_sound top g cs a is p t c d r has fc fd h =
     let m = both alike (Components.agreed outs) l.1 in
     let same : c.what.value ≡ d.what.value = same_option_is c.what.value d.what.value m.0 in
     let first : IsComp g d.instances a c.what.what c.what.emits c.what.value =
-        comp_grows g c.instances d.instances a c.what.what c.what.emits c.what.value fd.grown.begins fc.typed in
+    comp_grows g c.instances d.instances a c.what.what c.what.emits c.what.value fd.grown.begins fc.typed in
     let second : IsComp g d.instances a d.what.what d.what.emits c.what.value = subst (IsComp g d.instances a d.what.what d.what.emits) (sym same) fd.typed in
     subst (Fits top g cs a is) k.1
     (record {
@@ -159,7 +159,7 @@ if_sound top g cs a is p t c d r has fc fd h =
 pipe_made : (top g : Visible) (cs : List Prepared) (a : Ty) (is : List Instance) (link : Link) (p : Place) (c d r : Components.Reached) (v : Option Ty) →
     IsValueOf c.what.value d.what.value v →
     Fits top g cs a is c → Fits top g cs (Components.link_type c.what.emits) c.instances d →
-        Components.reached (Pipe link c.what.what d.what.what p) d.what.emits v d.instances ≡ r → Fits top g cs a is r
+    Components.reached (Pipe link c.what.what d.what.what p) d.what.emits v d.instances ≡ r → Fits top g cs a is r
 pipe_made top g cs a is link p c d r v value fc fd e =
     subst (Fits top g cs a is) e
     (record {
@@ -176,7 +176,7 @@ pipe_sound top g cs a is link p c d r None w e f fc fd h =
     (same_fine (Components.reached (Pipe link c.what.what d.what.what p) d.what.emits w d.instances) r h)
 pipe_sound top g cs a is link p c d r (Some t) None e f fc fd h =
     pipe_made top g cs a is link p c d r (Some t) (subst (λ x. IsValueOf x d.what.value (Some t)) (sym e) (subst (λ y. IsValueOf (Some t) y (Some t))
-        (sym f) refl)) fc fd
+    (sym f) refl)) fc fd
     (same_fine (Components.reached (Pipe link c.what.what d.what.what p) d.what.emits (Some t) d.instances) r h)
 pipe_sound top g cs a is link p c d r (Some t) (Some u) e f fc fd h = absurd cc
 
@@ -210,8 +210,15 @@ rest_is {A} z done x more e = e ∙ append_assoc done (x ∷ []) more
 ended : (top g : Visible) (cs : List Prepared) (a : Ty) (done z : Components.Members) → Well top cs done.instances → done ≡ z → MembersFit top g cs a done z
 ended top g cs a done z well e =
     subst (MembersFit top g cs a done) e
-    (record { members = []; outs = []; members_are = sym (append-nil done.what); outs_are = sym (append-nil done.emits); grown =
-        grown_self top cs done.instances well; typed = (refl, refl) })
+    (record {
+      members = [];
+      outs = [];
+      members_are = sym (append-nil done.what);
+      outs_are = sym (append-nil done.emits);
+      grown =
+          grown_self top cs done.instances well;
+      typed = (refl, refl);
+    })
 
 -- A component that is bound, or runs, before the others.
 bind_fits : (top g : Visible) (cs : List Prepared) (a : Ty) (done z : Components.Members) (x : Ident) (r : Components.Reached) (t : Ty) →
@@ -283,8 +290,10 @@ mutual
   comp_sound top cs mk g n a (Take p) is r all well h =
       let made : Components.Reached = Components.reached (Take p) None (Some a) is in here top g cs a is r made well refl (refl, refl) (same_fine made r h)
   comp_sound top cs mk g n a (Takes k p) is r all well h =
-      let made : Components.Reached = Components.reached (Takes k p) None (Some (arr k a)) is in here top g cs a is r made well refl (refl,
-          refl) (same_fine made r h)
+      let made : Components.Reached = Components.reached (Takes k p) None (Some (arr k a)) is in here top g cs a is r made well refl (
+        refl,
+        refl,
+      ) (same_fine made r h)
   comp_sound top cs mk g n a (Emit e p) is r all well h =
       let t = first_fine (expr g unasked e) (Components.emit_of g.shapes p is) r h in emit_sound top g cs a is p t.0 r well (sound g unasked e t.0 t.1) t.2
   comp_sound top cs mk g n a (Emits e p) is r all well h =
@@ -318,7 +327,7 @@ mutual
   comp_sound top cs mk g n a (For' x e f _ (more_of-Comp c end_of-Comp) p) is r all well h =
       let w = with_index x g in
       let t = first_fine (expr g unasked e) (λ first. and_then (expr g unasked f) (λ turns. and_then (Components.comp mk w n a c is)
-          (Components.for_of x p first turns))) r h in
+      (Components.for_of x p first turns))) r h in
       let u = first_fine (expr g unasked f) (λ turns. and_then (Components.comp mk w n a c is) (Components.for_of x p t.0 turns)) r t.2 in
       let s = first_fine (Components.comp mk w n a c is) (Components.for_of x p t.0 u.0) r u.2 in
       let fits = comp_sound top cs mk w n a c is s.0 all well s.1 in
@@ -326,10 +335,10 @@ mutual
       let k = both (is_count t.0) (is_count u.0) l.0 in
       over top g w cs a is s.0 r (Components.reached (For x t.0.what u.0.what s.0.what.what p) s.0.what.emits Components.unit_value s.0.instances) fits refl
       (is-For g s.0.instances a x t.0.what u.0.what s.0.what.what p s.0.what.emits (count_has g e t.0 t.1 k.0) (count_has g f u.0 u.1 k.1)
-          (body_typed w a s.0 l.1 fits.typed)) l.2
+      (body_typed w a s.0 l.1 fits.typed)) l.2
   comp_sound top cs mk g n a (If' e _ (more_of-Comp c end_of-Comp) _ (more_of-Comp d end_of-Comp) p) is r all well h =
       let t = first_fine (expr g unasked e) (λ t. and_then (Components.comp mk g n a c is) (λ s. and_then (Components.comp mk g n a d s.instances)
-          (Components.if_of p t s))) r h in
+      (Components.if_of p t s))) r h in
       let s = first_fine (Components.comp mk g n a c is) (λ s. and_then (Components.comp mk g n a d s.instances) (Components.if_of p t.0 s)) r t.2 in
       let u = first_fine (Components.comp mk g n a d s.0.instances) (Components.if_of p t.0 s.0) r s.2 in
       let fits = comp_sound top cs mk g n a c is s.0 all well s.1 in
@@ -348,7 +357,7 @@ mutual
       subst (Fits top g cs a is) c.1 (record { grown = m.grown; typed = is-Block g z.0.instances a z.0.what p z.0.emits z.0.value c.0 typed })
   comp_sound top cs mk g n a (Pipe' link _ (more_of-Comp c end_of-Comp) _ (more_of-Comp d end_of-Comp) p) is r all well h =
       let s = first_fine (Components.comp mk g n a c is) (λ s. and_then (Components.comp mk g n (Components.link_type s.what.emits) d s.instances)
-          (Components.pipe_of link p s)) r h in
+      (Components.pipe_of link p s)) r h in
       let u = first_fine (Components.comp mk g n (Components.link_type s.0.what.emits) d s.0.instances) (Components.pipe_of link p s.0) r s.2 in
       let fits = comp_sound top cs mk g n a c is s.0 all well s.1 in
       pipe_sound top g cs a is link p s.0 u.0 r s.0.what.value u.0.what.value refl refl fits
@@ -360,7 +369,7 @@ mutual
   members_sound top cs mk g n a done end_of-Member z all well h = ended top g cs a done z well (same_fine done z h)
   members_sound top cs mk g n a done (more_of-Member (Bind x c) ms) z all well h =
       let next : Components.Reached → Ty → Walk Components.Members = λ r t. Components.members mk (declare (variable x.id t ∷ []) g) n a
-          (Components.with_comp done (Bind x r.what.what) r) ms in
+      (Components.with_comp done (Bind x r.what.what) r) ms in
       let r = first_fine (Components.comp mk g n a c done.instances) (λ r. Components.bound_at r.what.value (Components.place_of c) (next r)) z h in
       let b = bound_is r.0.what.value (Components.place_of c) (next r.0) z r.2 in
       let fits = comp_sound top cs mk g n a c done.instances r.0 all well r.1 in
@@ -374,19 +383,19 @@ mutual
   members_sound top cs mk g n a done (more_of-Member (Run c) end_of-Member) z all well h =
       let next : Components.Reached → Walk Components.Members = λ r. Fine (Components.with_comp done (Run r.what.what) r) in
       let r = first_fine (Components.comp mk g n a c done.instances) (λ r. and_then (check (Components.may_stand true r.what.value) (NotComputer
-          (Components.place_of c)) r) next) z h in
+      (Components.place_of c)) r) next) z h in
       let fits = comp_sound top cs mk g n a c done.instances r.0 all well r.1 in
       let e : Components.with_comp done (Run r.0.what.what) r.0 ≡ z = same_fine (Components.with_comp done (Run r.0.what.what) r.0) z r.2 in
       subst (MembersFit top g cs a done) e (last_fits top g cs a done r.0 fits)
   members_sound top cs mk g n a done (more_of-Member (Run c) (more_of-Member m ms)) z all well h =
       let next : Components.Reached → Walk Components.Members = λ r. Components.members mk g n a (Components.with_comp done (Run r.what.what) r)
-          (more_of-Member m ms) in
+      (more_of-Member m ms) in
       let r = first_fine (Components.comp mk g n a c done.instances) (λ r. and_then (check (Components.may_stand false r.what.value) (NotComputer
-          (Components.place_of c)) r) next) z h in
+      (Components.place_of c)) r) next) z h in
       let s = first_fine (check (Components.may_stand false r.0.what.value) (NotComputer (Components.place_of c)) r.0) next z r.2 in
       let k = held (Components.may_stand false r.0.what.value) (NotComputer (Components.place_of c)) r.0 s.0 s.1 in
       let some = stands_is r.0.what.value k.0 in
       let fits = comp_sound top cs mk g n a c done.instances r.0 all well r.1 in
       let w = members_sound top cs mk g n a (Components.with_comp done (Run r.0.what.what) r.0) (more_of-Member m ms) z all fits.grown.well (subst
-          (λ (q : Components.Reached). next q ≡ Fine z) (sym k.1) s.2) in
+      (λ (q : Components.Reached). next q ≡ Fine z) (sym k.1) s.2) in
       run_fits top g cs a done z r.0 fits w (stands w.members r.0.what.value some.0 some.1)

@@ -79,8 +79,12 @@ within_trans f g h a b = record {
 
 -- What holds over a part of the top holds over more of it.
 top_grows : (f top more : Visible) (fs : List Signature) (vs : List Seen) → Within top more → IsTop top f fs vs → IsTop more f fs vs
-top_grows f top more fs vs w h = record { shapes = begins_trans f.shapes top.shapes more.shapes h.shapes w.shapes; functions_are =
-    h.functions_are; variables_are = h.variables_are }
+top_grows f top more fs vs w h = record {
+  shapes = begins_trans f.shapes top.shapes more.shapes h.shapes w.shapes;
+  functions_are =
+      h.functions_are;
+  variables_are = h.variables_are;
+}
 
 functions_grow : (top more : Visible) (before : List Signature) (fs : List Function) → Within top more → AreFunctions top before fs →
     AreFunctions more before fs
@@ -114,16 +118,20 @@ variables_grow top more before (v ∷ vs) w h =
 functions_more : (top : Visible) (before : List Signature) (fs : List Function) (f : Function) → AreFunctions top before fs →
     IsFunction top (before ++ map signature_of fs) f → AreFunctions top before (fs ++ f ∷ [])
 functions_more top before [] f h k = (subst (λ b. IsFunction top b f) (append-nil before) k, tt)
-functions_more top before (g ∷ fs) f h k =
-    (h.0, functions_more top (before ++ signature_of g ∷ []) fs f h.1 (subst (λ b. IsFunction top b f) (sym (append_assoc before (signature_of g ∷ [])
-        (map signature_of fs))) k))
+functions_more top before (g ∷ fs) f h k = (
+  h.0,
+  functions_more top (before ++ signature_of g ∷ []) fs f h.1 (subst (λ b. IsFunction top b f) (sym (append_assoc before (signature_of g ∷ [])
+      (map signature_of fs))) k),
+)
 
 variables_more : (top : Visible) (before : List Seen) (vs : List Var) (v : Var) → AreTopVars top before vs → IsTopVar top (before ++ map seen_of vs) v →
     AreTopVars top before (vs ++ v ∷ [])
 variables_more top before [] v h k = (subst (λ b. IsTopVar top b v) (append-nil before) k, tt)
-variables_more top before (w ∷ vs) v h k =
-    (h.0, variables_more top (before ++ seen_of w ∷ []) vs v h.1 (subst (λ b. IsTopVar top b v) (sym (append_assoc before (seen_of w ∷ [])
-        (map seen_of vs))) k))
+variables_more top before (w ∷ vs) v h k = (
+  h.0,
+  variables_more top (before ++ seen_of w ∷ []) vs v h.1 (subst (λ b. IsTopVar top b v) (sym (append_assoc before (seen_of w ∷ [])
+      (map seen_of vs))) k),
+)
 
 -- The numbers of `fun comp`s.
 abbrev numbers : List Programs.Prepared → List ℕ
@@ -149,8 +157,12 @@ nothing_stands = record { variables_are = refl; functions_are = refl; variables 
 top_sound : (d e : Programs.Declared) (v : TypedVar) → Stands d → IsVar d.scope v.what → type_of v.what.ty ≡ v.ty → Programs.with_top d v ≡ Fine e → Stands e
 top_sound d e v s is ty h =
     let top = declare (seen_var v) d.scope in
-    let w : Within d.scope top = record { shapes = begins_self d.scope.shapes; functions = begins_self d.scope.functions; variables =
-        begins_more d.scope.variables (seen_var v) } in
+    let w : Within d.scope top = record {
+      shapes = begins_self d.scope.shapes;
+      functions = begins_self d.scope.functions;
+      variables =
+          begins_more d.scope.variables (seen_var v);
+    } in
     let all : List Var = d.variables ++ v.what ∷ [] in
     let one : IsTopVar top (map seen_of d.variables) v.what = record {
       seen = d.scope;
@@ -173,8 +185,12 @@ struct_sound : (d e : Programs.Declared) (s : Struct) (hd : Heading) → Stands 
 struct_sound d e s hd st h =
     let one : List Shape = Programs.shape_of d.scope.shapes s hd ∷ [] in
     let top : Visible = record { shapes = d.scope.shapes ++ one; functions = d.scope.functions; variables = d.scope.variables } in
-    let w : Within d.scope top = record { shapes = begins_more d.scope.shapes one; functions = begins_self d.scope.functions; variables =
-        begins_self d.scope.variables } in
+    let w : Within d.scope top = record {
+      shapes = begins_more d.scope.shapes one;
+      functions = begins_self d.scope.functions;
+      variables =
+          begins_self d.scope.variables;
+    } in
     subst Stands (same_fine (record d { scope = top }) e h)
     (record {
       variables_are = st.variables_are;
@@ -192,7 +208,7 @@ result_is ss None r h = subst (λ (w : Option Written). result_type (Programs.wr
 result_is ss (Some t) r h =
     let w = first_fine (written ss t) (λ w. Fine (Some w)) r h in
     subst (λ (v : Option Written). result_type (Programs.written_what v) ≡ Programs.result_ty (Programs.written_ty v)) (same_fine (Some w.0) r w.2)
-        (written_is ss t w.0 w.1)
+    (written_is ss t w.0 w.1)
 
 result_same : (t : Option Ty) → result_if t ≡ Programs.result_ty t
 result_same None = refl
@@ -200,7 +216,7 @@ result_same (Some t) = refl
 
 function_sound : (d e : Programs.Declared) (f : Function) (hd : Heading) (r : Option Written) (b : TypedBody) → Stands d → IsHeading hd →
     result_type (Programs.written_what r) ≡ Programs.result_ty (Programs.written_ty r) → IsBody (declare hd.seen d.scope) (result_if
-        (Programs.written_ty r)) b.what →
+    (Programs.written_ty r)) b.what →
     Programs.with_function d f hd r b ≡ Fine e → Stands e
 function_sound d e f hd r b st head result body h =
     let made : Function = record { name = f.name; params = hd.fields; result = Programs.written_what r; body = b.what; at = f.at } in
@@ -209,8 +225,12 @@ function_sound d e f hd r b st head result body h =
     ap (λ ts. let s : Signature = record { id = f.name.id; params = ts; result = result_type (Programs.written_what r) } in s) (sym head.types)
     ∙ ap (λ t. let s : Signature = record { id = f.name.id; params = hd.types; result = t } in s) result in
     let top : Visible = record { shapes = d.scope.shapes; functions = d.scope.functions ++ sig ∷ []; variables = d.scope.variables } in
-    let w : Within d.scope top = record { shapes = begins_self d.scope.shapes; functions = begins_more d.scope.functions (sig ∷ []); variables =
-        begins_self d.scope.variables } in
+    let w : Within d.scope top = record {
+      shapes = begins_self d.scope.shapes;
+      functions = begins_more d.scope.functions (sig ∷ []);
+      variables =
+          begins_self d.scope.variables;
+    } in
     let typed : IsBody (declare (map param_of hd.fields) d.scope) (result_type made.result) b.what =
     subst (λ vs. IsBody (declare vs d.scope) (result_type made.result) b.what) head.seen
     (subst (λ t. IsBody (declare hd.seen d.scope) t b.what) (result_same (Programs.written_ty r) ∙ sym result) body) in
@@ -236,18 +256,34 @@ comp_stands : (d e : Programs.Declared) (c : CompFunction) (hd : Heading) → St
 comp_stands d e c hd st head own h =
     let one : Programs.Prepared = record { id = c.name.id; head = hd; body = c.body } in
     subst Stands (same_fine (record d { comps = one ∷ d.comps }) e h)
-    (record { variables_are = st.variables_are; functions_are = st.functions_are; variables = st.variables; functions = st.functions; comps = (own, head,
-        st.comps) })
+    (record {
+      variables_are = st.variables_are;
+      functions_are = st.functions_are;
+      variables = st.variables;
+      functions = st.functions;
+      comps = (
+        own,
+        head,
+        st.comps,
+      );
+    })
 
 -- Only a `fun comp` adds to the `fun comp`s.
 top_comps : (d e : Programs.Declared) (v : TypedVar) → Programs.with_top d v ≡ Fine e → d.comps ≡ e.comps
-top_comps d e v h = ap (λ (c : Programs.Declared). c.comps) (same_fine (record d { scope = declare (seen_var v) d.scope; variables =
-    d.variables ++ v.what ∷ [] }) e h)
+top_comps d e v h = ap (λ (c : Programs.Declared). c.comps) (same_fine (record d {
+  scope = declare (seen_var v) d.scope;
+  variables =
+      d.variables ++ v.what ∷ [];
+}) e h)
 
 struct_comps : (d e : Programs.Declared) (s : Struct) (hd : Heading) → Programs.with_struct d s hd ≡ Fine e → d.comps ≡ e.comps
 struct_comps d e s hd h =
-    ap (λ (c : Programs.Declared). c.comps) (same_fine (record d { scope = record d.scope { shapes =
-        d.scope.shapes ++ Programs.shape_of d.scope.shapes s hd ∷ [] } }) e h)
+    ap (λ (c : Programs.Declared). c.comps) (same_fine (record d {
+      scope = record d.scope {
+        shapes =
+            d.scope.shapes ++ Programs.shape_of d.scope.shapes s hd ∷ [];
+      };
+    }) e h)
 
 function_comps : (d e : Programs.Declared) (f : Function) (hd : Heading) (r : Option Written) (b : TypedBody) →
     Programs.with_function d f hd r b ≡ Fine e → d.comps ≡ e.comps
@@ -279,7 +315,7 @@ declarations_sound d e (FunctionDecl g ∷ xs) st own h =
     let f = first_fine (Programs.declaration d (FunctionDecl g)) (λ c. Programs.declarations c xs) e h in
     let body : Heading → Option Written → Walk TypedBody = λ hd r. fun_body (declare hd.seen d.scope) (Programs.written_ty r) g.at g.body in
     let t = first_fine (heading d.scope.shapes no_heading g.params) (λ hd. and_then (Programs.result_of d.scope.shapes g.result) (λ r. and_then (body hd r)
-        (Programs.with_function d g hd r))) f.0 f.1 in
+    (Programs.with_function d g hd r))) f.0 f.1 in
     let r = first_fine (Programs.result_of d.scope.shapes g.result) (λ r. and_then (body t.0 r) (Programs.with_function d g t.0 r)) f.0 t.2 in
     let b = first_fine (body t.0 r.0) (Programs.with_function d g t.0 r.0) f.0 r.2 in
     let s = function_sound d f.0 g t.0 r.0 b.0 st (heading_of d.scope.shapes g.params t.0 t.1) (result_is d.scope.shapes g.result r.0 r.1)
@@ -292,7 +328,7 @@ declarations_sound d e (CompDecl c ∷ xs) st own h =
     let one : List Programs.Prepared = record { id = c.name.id; head = t.0; body = c.body } ∷ d.comps in
     let same : one ≡ f.0.comps = ap (λ (x : Programs.Declared). x.comps) (same_fine (record d { comps = one }) f.0 t.2) in
     declarations_sound f.0 e xs (comp_stands d f.0 c t.0 st (heading_of d.scope.shapes c.params t.0 t.1) own.0 t.2) (subst (λ cs. HaveOwnNumbers
-        (numbers cs) xs) same own.1) f.2
+    (numbers cs) xs) same own.1) f.2
 
 same_number : (n : ℕ) → nat_eq n n ≡ true
 same_number n = eq-eqb n n refl
@@ -314,10 +350,10 @@ finds (e ∷ front) d back (own, head, more) = passes e front d back (nat_eq e.i
     passes : (e : Programs.Prepared) (front : List Programs.Prepared) (d : Programs.Prepared) (back : List Programs.Prepared) (b : Bool) →
         nat_eq e.id d.id ≡ b →
         is_in (numbers (front ++ d ∷ back)) e.id ≡ false → head_of (front ++ d ∷ back) d.id ≡ Some d.head →
-            (if b then Some e.head else head_of (front ++ d ∷ back) d.id) ≡ Some d.head
+        (if b then Some e.head else head_of (front ++ d ∷ back) d.id) ≡ Some d.head
     passes e front d back true same own next =
         let there : is_in (numbers (front ++ d ∷ back)) e.id ≡ true = ap (is_in (numbers (front ++ d ∷ back)))
-            (eqb-true e.id d.id same) ∙ not_there front back d in
+        (eqb-true e.id d.id same) ∙ not_there front back d in
         absurd (no (sym there ∙ own))
       where
         no : true ≡ false → ⊥
@@ -349,13 +385,13 @@ all_make top cs front [] are more e id m h = absurd cc
 all_make top cs front (d ∷ ds) are (own, head, more) e id m h =
     let before : AllMake top cs (Programs.makers top ds) = all_make top cs (front ++ d ∷ []) ds are more (e ∙ sym (append_assoc front (d ∷ []) ds)) in
     choose top cs d (Programs.maker top (Programs.makers top ds) d) (Programs.makers top ds id) id m (nat_eq d.id id) refl h
-        (make_one top cs front d ds are head e before) (before id m)
+    (make_one top cs front d ds are head e before) (before id m)
 
 main_sound : (p : Prog) (d : Programs.Declared) (core : Core) → Stands d → Programs.main_of p d ≡ Fine core → IsSound core
 main_sound p d core st h =
     let mk : Makers = Programs.makers d.scope d.comps in
     let a = first_fine (Programs.stream d.scope.shapes p.input) (λ a. and_then (comp mk d.scope 0 a p.main []) (λ r. and_then
-        (Programs.stream d.scope.shapes p.output) (Programs.whole p d a r))) core h in
+    (Programs.stream d.scope.shapes p.output) (Programs.whole p d a r))) core h in
     let r = first_fine (comp mk d.scope 0 a.0 p.main []) (λ r. and_then (Programs.stream d.scope.shapes p.output) (Programs.whole p d a.0 r)) core a.2 in
     let b = first_fine (Programs.stream d.scope.shapes p.output) (Programs.whole p d a.0 r.0) core r.2 in
     let made : Core = record {
@@ -371,8 +407,11 @@ main_sound p d core st h =
     } in
     let c = held (all_same b.0 (emitted r.0.what.emits)) (Mismatch p.output.at) made core b.2 in
     let fits : Fits d.scope d.scope d.comps a.0 [] r.0 =
-    comp_sound d.scope d.comps mk d.scope 0 a.0 p.main [] r.0 (all_make d.scope d.comps [] d.comps st.comps st.comps refl) (record { rules = tt; of =
-        tt }) r.1 in
+    comp_sound d.scope d.comps mk d.scope 0 a.0 p.main [] r.0 (all_make d.scope d.comps [] d.comps st.comps st.comps refl) (record {
+      rules = tt;
+      of =
+          tt;
+    }) r.1 in
     subst IsSound c.1
     (record {
       top = d.scope;

@@ -28,8 +28,14 @@ use Rattle.zir_sound.specs.Statements.{Each, HasIfAny, IsVar, type_of}
 written_if_is : (b : Option Base) (t : TypeExpr) (w : Written) → written_if b t ≡ Fine w → type_of w.what ≡ w.ty
 written_if_is None t w h = absurd cc
 written_if_is (Some b) t w h =
-    let made : Written = record { what = record { dimensions = t.dimensions; base = b; name = t.name; at = t.at }; ty = record { lengths =
-        lengths_of t.dimensions; base = b } } in
+    let made : Written = record {
+      what = record { dimensions = t.dimensions; base = b; name = t.name; at = t.at };
+      ty = record {
+        lengths =
+            lengths_of t.dimensions;
+        base = b;
+      };
+    } in
     subst (λ v. type_of v.what ≡ v.ty) (same_fine made w h) refl
 
 pub written_is : (ss : List Shape) (t : TypeExpr) (w : Written) → written ss t ≡ Fine w → type_of w.what ≡ w.ty

@@ -44,8 +44,12 @@ mutual
   comp_grows g is js a (Repeat' _ (more_of-Comp c end_of-Comp) p) out v b h = (h.0, comp_grows g is js a c out unit_value b h.1)
   comp_grows g is js a (While' turning e _ (more_of-Comp c end_of-Comp) p) out v b (is_v, has, hc) = (is_v, has, comp_grows g is js a c out unit_value b hc)
   comp_grows g is js a (Times' e _ (more_of-Comp c end_of-Comp) p) out v b (is_v, has, hc) = (is_v, has, comp_grows g is js a c out unit_value b hc)
-  comp_grows g is js a (For' x e f _ (more_of-Comp c end_of-Comp) p) out v b (is_v, first, turns, hc) = (is_v, first, turns,
-      comp_grows (with_index x g) is js a c out unit_value b hc)
+  comp_grows g is js a (For' x e f _ (more_of-Comp c end_of-Comp) p) out v b (is_v, first, turns, hc) = (
+    is_v,
+    first,
+    turns,
+    comp_grows (with_index x g) is js a c out unit_value b hc,
+  )
   comp_grows g is js a (If' e _ (more_of-Comp c end_of-Comp) _ (more_of-Comp d end_of-Comp) p) out v b (r, s, agree, is_out, cond, hc, hd) =
       (r, s, agree, is_out, cond, comp_grows g is js a c r v b hc, comp_grows g is js a d s v b hd)
   comp_grows g is js a (Map f k p) out v b h = h

@@ -78,9 +78,11 @@ instances_more top before [] i h k = (subst (λ v. IsComp (declare (map param_of
     none : {A : Type 0} (xs : List A) → xs ++ [] ≡ xs
     none [] = refl
     none (x ∷ xs) = ap (λ v. x ∷ v) (none xs)
-instances_more top before (j ∷ is) i h k =
-    (h.0, instances_more top (before ++ j ∷ []) is i h.1 (subst (λ v. IsComp (declare (map param_of i.params) top) v i.input i.body i.emits i.value) (sym
-        (append_assoc before (j ∷ []) is)) k))
+instances_more top before (j ∷ is) i h k = (
+  h.0,
+  instances_more top (before ++ j ∷ []) is i h.1 (subst (λ v. IsComp (declare (map param_of i.params) top) v i.input i.body i.emits i.value) (sym
+      (append_assoc before (j ∷ []) is)) k),
+)
 
 are_of_more : (cs : List Prepared) (is : List Instance) (i : Instance) → AreOf cs is → IsOf cs i → AreOf cs (is ++ i ∷ [])
 are_of_more cs [] i h k = (k, tt)
@@ -108,8 +110,14 @@ found_from cs n (j ∷ is) id a i of h = found_here cs n j is id a i (nat_eq j.d
         let c = both (nat_eq j.declaration id) (same_ty j.input a) e in
         let same : record { place = n; item = j } ≡ i = cc in
         subst (FoundAs cs (j ∷ is) n id a) same (0, omega arith, refl, eqb-true j.declaration id c.0, same_ty_is j.input a c.1, of.0)
-    found_here cs n j is id a i false e of h next = let (k, place, here, named, input, is_of) = next h in (suc k, place ∙ omega arith, here, named, input,
-        is_of)
+    found_here cs n j is id a i false e of h next = let (k, place, here, named, input, is_of) = next h in (
+      suc k,
+      place ∙ omega arith,
+      here,
+      named,
+      input,
+      is_of,
+    )
 
 -- A call of an instance that is typed already.
 recalled_sound : (top g : Visible) (cs : List Prepared) (id : ℕ) (m : Maker) (f : Ident) (a : Ty) (es : List Expr) (is : List Instance)
@@ -133,8 +141,11 @@ anew_sound top g cs id m f a es is s r makes each fits h =
     let i : Instance = record { declaration = m.id; input = a; params = m.head.fields; body = s.what.what; emits = s.what.emits; value = s.what.value } in
     let all : List Instance = s.instances ++ i ∷ [] in
     let of : IsOf cs i = (m.head, ap (head_of cs) makes.named ∙ makes.headed, refl) in
-    let well : Well top cs all = record { rules = instances_more top [] s.instances i fits.grown.well.rules fits.typed; of =
-        are_of_more cs s.instances i fits.grown.well.of of } in
+    let well : Well top cs all = record {
+      rules = instances_more top [] s.instances i fits.grown.well.rules fits.typed;
+      of =
+          are_of_more cs s.instances i fits.grown.well.of of;
+    } in
     subst (Fits top g cs a is) (same_fine (reached (Call f (length s.instances) es) s.what.emits s.what.value all) r h)
     (record {
       grown = record { begins = begins_trans is s.instances all fits.grown.begins (begins_more s.instances (i ∷ [])); well = well };
@@ -165,5 +176,5 @@ call_sound top g cs mk (Some m) n f a es is r e all well h =
     let c = held (agree m.head.types z.0.types) (Mismatch f.at) z.0.whats k.0 k.1 in
     let typed : Each g z.0.types z.0.whats = args_sound g (InTurn m.head.types) no_args es z.0 tt z.1 in
     let each : Each g m.head.types k.0 = subst (Each g m.head.types) c.1 (subst (λ ts. Each g ts z.0.whats) (sym
-        (agree_is m.head.types z.0.types c.0)) typed) in
+    (agree_is m.head.types z.0.types c.0)) typed) in
     instance_sound top g cs f.id m n f a k.0 is r (instance_from 0 is m.id a) refl (all f.id m e) well each k.2

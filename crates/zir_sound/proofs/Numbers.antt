@@ -70,8 +70,13 @@ turn_later {A} {B} walk a (x ∷ xs) z k h =
 variable_later : (a : Seen) (v : Variable) (x : Done Variable) → statements.variable a v ≡ Fine x → Later a x.seen
 variable_later a v x h =
     let last : Seen = opened kind.Variable (numbered a v.name) (counted a) in
-    let t = first (type_of a v.ty) (λ ty. and_then (maybe (expr a) v.initial) (λ initial. done (record { name = numbered a v.name; ty = ty; initial =
-        initial; at = v.at }) last)) x h in
+    let t = first (type_of a v.ty) (λ ty. and_then (maybe (expr a) v.initial) (λ initial. done (record {
+      name = numbered a v.name;
+      ty = ty;
+      initial =
+          initial;
+      at = v.at;
+    }) last)) x h in
     let i = first (maybe (expr a) v.initial) (λ initial. done (record { name = numbered a v.name; ty = t.0; initial = initial; at = v.at }) last) x t.2 in
     ends a last _ x i.2 (later_one a last (later_self last))
 
@@ -94,7 +99,7 @@ mutual
   stmt_later a (stmt.Var v) x h = behind a (statements.variable a v) (λ v'. done (stmt.Var v'.made) v'.seen) x (variable_later a v) (last stmt.Var x) h
   stmt_later a (stmt.Assign y path e) x h =
       past a (resolved need.Target a y) _ x (λ y'. past a (each (statements.access_of a) path) _ x (λ path'. past a (expr a e) _ x (λ e' k. ends a a
-          (stmt.Assign y' path' e') x k (later_self a)))) h
+      (stmt.Assign y' path' e') x k (later_self a)))) h
   stmt_later a (stmt.Call f n es) x h =
       past a (resolved need.Statement a f) _ x (λ f'. past a (each (expr a) es) _ x (λ es' k. ends a a (stmt.Call f' n es') x k (later_self a))) h
   stmt_later a (stmt.Error text at) x h = ends a a (stmt.Error text at) x h (later_self a)
@@ -103,7 +108,7 @@ mutual
       (λ y. closed_later a a (statements.stmts a ss) y (stmts_later a ss)) (last (λ ss'. stmt.If e' ss' at) x)) h
   stmt_later a (stmt.IfElse' e _ ss _ ts at) x h =
       past a (expr a e) _ x (λ e'. behind a (closed a (statements.stmts a ss)) (λ ss'. and_then (closed ss'.seen (statements.stmts ss'.seen ts))
-          (λ ts'. done (stmt.IfElse e' ss'.made ts'.made at) ts'.seen)) x
+      (λ ts'. done (stmt.IfElse e' ss'.made ts'.made at) ts'.seen)) x
       (λ y. closed_later a a (statements.stmts a ss) y (stmts_later a ss))
       (λ ss'. behind ss'.seen (closed ss'.seen (statements.stmts ss'.seen ts)) (λ ts'. done (stmt.IfElse e' ss'.made ts'.made at) ts'.seen) x
       (λ y. closed_later ss'.seen ss'.seen (statements.stmts ss'.seen ts) y (stmts_later ss'.seen ts)) (last (λ ts'. stmt.IfElse e' ss'.made ts' at) x))) h
@@ -112,24 +117,27 @@ mutual
       (λ y. closed_later a a (statements.stmts a ss) y (stmts_later a ss)) (last (λ ss'. stmt.While e' ss' at) x)) h
   stmt_later a (stmt.For' i b n _ ss at) x h =
       past a (expr a b) _ x (λ b'. past a (expr a n) _ x (λ n'. behind a (closed a (statements.stmts (statements.indexed a i) ss)) (λ ss'. done (stmt.For
-          (numbered a i) b' n' ss'.made at) ss'.seen) x
+      (numbered a i) b' n' ss'.made at) ss'.seen) x
       (λ y. closed_later a a (statements.stmts (statements.indexed a i) ss) y (λ z k. later_one a z.seen (stmts_later (statements.indexed a i) ss z k)))
-          (last (λ ss'. stmt.For (numbered a i) b' n' ss' at) x))) h
+      (last (λ ss'. stmt.For (numbered a i) b' n' ss' at) x))) h
 
   stmts_later : (a : Seen) {m : _} (ss : Row_of-Stmt m) (z : Done (List Stmt)) → statements.stmts a ss ≡ Fine z → Later a z.seen
   stmts_later a end_of-Stmt z h = ends a a [] z h (later_self a)
   stmts_later a (more_of-Stmt s ss) z h =
       behind a (statements.stmt a s) (λ s'. and_then (statements.stmts s'.seen ss) (λ ss'. done (s'.made ∷ ss'.made) ss'.seen)) z (stmt_later a s)
       (λ s'. behind s'.seen (statements.stmts s'.seen ss) (λ ss'. done (s'.made ∷ ss'.made) ss'.seen) z (stmts_later s'.seen ss) (last
-          (λ ss'. s'.made ∷ ss') z)) h
+      (λ ss'. s'.made ∷ ss') z)) h
 
 body_later : (a : Seen) (b : Body) (x : Done Body) → statements.body_of a b ≡ Fine x → Later a x.seen
 body_later a b x h =
     closed_later a a (and_then (statements.in_turn statements.stmt a b.statements) (λ ss. and_then (maybe (statements.returned ss.seen) b.result)
-        (λ result. done (record { statements = ss.made; result = result }) ss.seen))) x
+    (λ result. done (record { statements = ss.made; result = result }) ss.seen))) x
     (λ y. behind a (statements.in_turn statements.stmt a b.statements) _ y (λ z. turn_later statements.stmt a b.statements z stmt_later)
-    (λ ss. past ss.seen (maybe (statements.returned ss.seen) b.result) _ y (λ result k. ends ss.seen ss.seen (record { statements = ss.made; result =
-        result }) y k (later_self ss.seen)))) h
+    (λ ss. past ss.seen (maybe (statements.returned ss.seen) b.result) _ y (λ result k. ends ss.seen ss.seen (record {
+      statements = ss.made;
+      result =
+          result;
+    }) y k (later_self ss.seen)))) h
 
 mutual
   comp_later : (a : Seen) (c : Comp) (x : Done Comp) → components.comp a c ≡ Fine x → Later a x.seen
@@ -144,36 +152,36 @@ mutual
       (comp_later a c) (last (λ c'. comp.Repeat c' at) x) h
   comp_later a (comp.While' turning e _ (more_of-Comp c end_of-Comp) at) x h =
       past a (expr a e) _ x (λ e'. behind a (components.comp a c) (λ c'. done (comp.While turning e' c'.made at) c'.seen) x (comp_later a c) (last
-          (λ c'. comp.While turning e' c' at) x)) h
+      (λ c'. comp.While turning e' c' at) x)) h
   comp_later a (comp.Times' e _ (more_of-Comp c end_of-Comp) at) x h =
       past a (expr a e) _ x (λ e'. behind a (components.comp a c) (λ c'. done (comp.Times e' c'.made at) c'.seen) x (comp_later a c) (last
-          (λ c'. comp.Times e' c' at) x)) h
+      (λ c'. comp.Times e' c' at) x)) h
   comp_later a (comp.For' i b n _ (more_of-Comp c end_of-Comp) at) x h =
       past a (expr a b) _ x (λ b'. past a (expr a n) _ x (λ n'. behind a (closed a (components.comp (statements.indexed a i) c)) (λ c'. done (comp.For
-          (numbered a i) b' n' c'.made at) c'.seen) x
+      (numbered a i) b' n' c'.made at) c'.seen) x
       (λ y. closed_later a a (components.comp (statements.indexed a i) c) y (λ z k. later_one a z.seen (comp_later (statements.indexed a i) c z k))) (last
-          (λ c'. comp.For (numbered a i) b' n' c' at) x))) h
+      (λ c'. comp.For (numbered a i) b' n' c' at) x))) h
   comp_later a (comp.If' e _ (more_of-Comp c end_of-Comp) _ (more_of-Comp d end_of-Comp) at) x h =
       past a (expr a e) _ x (λ e'. behind a (components.comp a c) (λ c'. and_then (components.comp c'.seen d) (λ d'. done
-          (comp.If e' c'.made d'.made at) d'.seen)) x (comp_later a c)
+      (comp.If e' c'.made d'.made at) d'.seen)) x (comp_later a c)
       (λ c'. behind c'.seen (components.comp c'.seen d) (λ d'. done (comp.If e' c'.made d'.made at) d'.seen) x (comp_later c'.seen d) (last
-          (λ d'. comp.If e' c'.made d' at) x))) h
+      (λ d'. comp.If e' c'.made d' at) x))) h
   comp_later a (comp.Map f n at) x h = past a (resolved need.Mapped a f) _ x (λ f' k. ends a a (comp.Map f' n at) x k (later_self a)) h
   comp_later a (comp.Filter f n at) x h = past a (resolved need.Mapped a f) _ x (λ f' k. ends a a (comp.Filter f' n at) x k (later_self a)) h
   comp_later a (comp.Call f n es) x h =
       past a (resolved need.Component a f) _ x (λ f'. past a (each (expr a) es) _ x (λ es' k. ends a a (comp.Call f' n es') x k (later_self a))) h
   comp_later a (comp.Block' _ ms at) x h =
       behind a (closed a (components.members a ms)) (λ ms'. done (comp.Block ms'.made at) ms'.seen) x (λ y. closed_later a a (components.members a ms) y
-          (members_later a ms)) (last (λ ms'. comp.Block ms' at) x) h
+      (members_later a ms)) (last (λ ms'. comp.Block ms' at) x) h
   comp_later a (comp.Pipe' link _ (more_of-Comp c end_of-Comp) _ (more_of-Comp d end_of-Comp) at) x h =
       behind a (components.comp a c) (λ c'. and_then (components.comp c'.seen d) (λ d'. done (comp.Pipe link c'.made d'.made at) d'.seen)) x (comp_later a c)
       (λ c'. behind c'.seen (components.comp c'.seen d) (λ d'. done (comp.Pipe link c'.made d'.made at) d'.seen) x (comp_later c'.seen d) (last
-          (λ d'. comp.Pipe link c'.made d' at) x)) h
+      (λ d'. comp.Pipe link c'.made d' at) x)) h
 
   member_later : (a : Seen) (m : Member) (x : Done Member) → components.member a m ≡ Fine x → Later a x.seen
   member_later a (Bind i c) x h =
       behind a (components.comp (counted a) c) (λ c'. done (Bind (numbered a i) c'.made) (opened kind.Fixed (numbered a i) c'.seen)) x
-          (λ y k. later_one a y.seen (comp_later (counted a) c y k))
+      (λ y k. later_one a y.seen (comp_later (counted a) c y k))
       (λ c' k. ends c'.seen (opened kind.Fixed (numbered a i) c'.seen) (Bind (numbered a i) c'.made) x k (later_self c'.seen)) h
   member_later a (Var v) x h = behind a (statements.variable a v) (λ v'. done (Var v'.made) v'.seen) x (variable_later a v) (last Var x) h
   member_later a (Run c) x h = behind a (components.comp a c) (λ c'. done (Run c'.made) c'.seen) x (comp_later a c) (last Run x) h
@@ -183,15 +191,15 @@ mutual
   members_later a (more_of-Member m ms) z h =
       behind a (components.member a m) (λ m'. and_then (components.members m'.seen ms) (λ ms'. done (m'.made ∷ ms'.made) ms'.seen)) z (member_later a m)
       (λ m'. behind m'.seen (components.members m'.seen ms) (λ ms'. done (m'.made ∷ ms'.made) ms'.seen) z (members_later m'.seen ms) (last
-          (λ ms'. m'.made ∷ ms') z)) h
+      (λ ms'. m'.made ∷ ms') z)) h
 
 pub params_later : (a : Seen) (before : List Entry) (fs : List Field) (z : Done (List Field)) → programs.params a before fs ≡ Fine z → Later a z.seen
 params_later a before [] z h = ends a a [] z h (later_self a)
 params_later a before (f ∷ fs) z h =
     past a (programs.new_name before f.name) _ z (λ u. past a (type_of a f.ty) _ z (λ ty. behind a (programs.params (counted a)
-        (programs.and_name before f.name) fs)
+    (programs.and_name before f.name) fs)
     (λ fs'. done (record { name = numbered a f.name; ty = ty } ∷ fs'.made) fs'.seen) z (λ y k. later_one a y.seen (params_later (counted a)
-        (programs.and_name before f.name) fs y k))
+    (programs.and_name before f.name) fs y k))
     (last (λ fs'. record { name = numbered a f.name; ty = ty } ∷ fs') z))) h
 
 entered_next : (fs : List Field) (a : Seen) → (programs.entered fs a).next ≡ a.next
@@ -226,29 +234,35 @@ struct_fresh : (a : Seen) (s : Struct) (x : Done Decl) → programs.struct_of a 
 struct_fresh a s x h =
     let in_ : Seen = programs.inside (numbered a s.name) (counted a) in
     let next : List Field → Walk (Done Decl) = λ fs. done (decl.Struct (record { name = numbered a s.name; fields = fs; at = s.at }))
-        (programs.behind kind.Structure (numbered a s.name) a in_) in
+    (programs.behind kind.Structure (numbered a s.name) a in_) in
     let n = first (programs.new_name a.open_ s.name) (λ u. and_then (programs.fields in_ [] s.fields) next) x h in
     let f = first (programs.fields in_ [] s.fields) next x n.2 in
     fresh_end a (programs.behind kind.Structure (numbered a s.name) a in_) (decl.Struct (record { name = numbered a s.name; fields = f.0; at = s.at })) x
-        (later_one a (counted a) (later_self (counted a))) tt f.2
+    (later_one a (counted a) (later_self (counted a))) tt f.2
 
 function_fresh : (a : Seen) (f : Function) (x : Done Decl) → programs.function_of a f ≡ Fine x → Fresh a x
 function_fresh a f x h =
     let own = numbered a f.name in
     let at_end : Done (List Field) → Option _ → Done Body → Walk (Done Decl) =
     λ ps result b. done (decl.Function (record { name = own; params = ps.made; result = result; body = b.made; at = f.at })) (programs.behind
-        (kind.Function (length f.params)) own a b.seen) in
+    (kind.Function (length f.params)) own a b.seen) in
     let in_body : Done (List Field) → Seen = λ ps. programs.entered ps.made (programs.inside own ps.seen) in
     let n = first (programs.new_name a.open_ f.name) (λ u. and_then (programs.params (counted a) [] f.params) (λ ps. and_then (maybe
-        (type_of ps.seen) f.result) (λ result.
+    (type_of ps.seen) f.result) (λ result.
     and_then (statements.body_of (in_body ps) f.body) (at_end ps result)))) x h in
     let ps = first (programs.params (counted a) [] f.params) (λ ps. and_then (maybe (type_of ps.seen) f.result) (λ result. and_then (statements.body_of
-        (in_body ps) f.body) (at_end ps result))) x n.2 in
+    (in_body ps) f.body) (at_end ps result))) x n.2 in
     let r = first (maybe (type_of ps.0.seen) f.result) (λ result. and_then (statements.body_of (in_body ps.0) f.body) (at_end ps.0 result)) x ps.2 in
     let b = first (statements.body_of (in_body ps.0) f.body) (at_end ps.0 r.0) x r.2 in
     let l = inside_later a own ps.0 b.0.seen (params_later (counted a) [] f.params ps.0 ps.1) (body_later (in_body ps.0) f.body b.0 b.1) in
-    fresh_end a (programs.behind (kind.Function (length f.params)) own a b.0.seen) (decl.Function (record { name = own; params = ps.0.made; result =
-        r.0; body = b.0.made; at = f.at })) x (later_less a b.0.seen l) tt b.2
+    fresh_end a (programs.behind (kind.Function (length f.params)) own a b.0.seen) (decl.Function (record {
+      name = own;
+      params = ps.0.made;
+      result =
+          r.0;
+      body = b.0.made;
+      at = f.at;
+    })) x (later_less a b.0.seen l) tt b.2
 
 comp_fresh : (a : Seen) (f : CompFunction) (x : Done Decl) → programs.comp_function_of a f ≡ Fine x → Fresh a x
 comp_fresh a f x h =
@@ -257,12 +271,12 @@ comp_fresh a f x h =
     λ ps c. done (decl.Comp (record { name = own; params = ps.made; body = c.made; at = f.at })) (programs.behind kind.Component own a c.seen) in
     let in_body : Done (List Field) → Seen = λ ps. programs.entered ps.made (programs.inside own ps.seen) in
     let n = first (programs.new_name a.open_ f.name) (λ u. and_then (programs.params (counted a) [] f.params) (λ ps. and_then (components.comp
-        (in_body ps) f.body) (at_end ps))) x h in
+    (in_body ps) f.body) (at_end ps))) x h in
     let ps = first (programs.params (counted a) [] f.params) (λ ps. and_then (components.comp (in_body ps) f.body) (at_end ps)) x n.2 in
     let c = first (components.comp (in_body ps.0) f.body) (at_end ps.0) x ps.2 in
     let l = inside_later a own ps.0 c.0.seen (params_later (counted a) [] f.params ps.0 ps.1) (comp_later (in_body ps.0) f.body c.0 c.1) in
     fresh_end a (programs.behind kind.Component own a c.0.seen) (decl.Comp (record { name = own; params = ps.0.made; body = c.0.made; at = f.at })) x
-        (later_less a c.0.seen l) (refl, l) c.2
+    (later_less a c.0.seen l) (refl, l) c.2
 
 decl_fresh : (a : Seen) (d : Decl) (x : Done Decl) → programs.decl_of a d ≡ Fine x → Fresh a x
 decl_fresh a (decl.Var v) x h =

@@ -56,8 +56,15 @@ index_step_sound g from done next t p (n ∷ ns) b e f has here h =
     let u : Ty = record { lengths = ns; base = b } in
     let r = held (is_whole (scalar_of t.ty)) (Mismatch p) (Statements.longer done (Index t.what p) u) next h in
     subst (Here g from) r.1
-    (leads_more g from done.ty u done.steps (Index t.what p) here (n, u, scalar_of t.ty, ty_eq done.ty (n ∷ ns) b e f, r.0,
-        subst (λ v. Has g v t.what) (whole_is t.ty r.0) has, refl))
+    (leads_more g from done.ty u done.steps (Index t.what p) here (
+      n,
+      u,
+      scalar_of t.ty,
+      ty_eq done.ty (n ∷ ns) b e f,
+      r.0,
+      subst (λ v. Has g v t.what) (whole_is t.ty r.0) has,
+      refl,
+    ))
 
 slice_step_sound : (g : Visible) (from : Ty) (done next : Path) (t : Typed) (k : ℕ) (p : Place) (ls : List ℕ) (b : Base) → done.ty.lengths ≡ ls →
     done.ty.base ≡ b → Has g t.ty t.what →
@@ -67,8 +74,15 @@ slice_step_sound g from done next t k p (n ∷ ns) b e f has here h =
     let u : Ty = record { lengths = ns; base = b } in
     let r = held (is_whole (scalar_of t.ty)) (Mismatch p) (Statements.longer done (Slice t.what k p) (arr k u)) next h in
     subst (Here g from) r.1
-    (leads_more g from done.ty (arr k u) done.steps (Slice t.what k p) here (n, u, scalar_of t.ty, ty_eq done.ty (n ∷ ns) b e f, r.0,
-        subst (λ v. Has g v t.what) (whole_is t.ty r.0) has, refl))
+    (leads_more g from done.ty (arr k u) done.steps (Slice t.what k p) here (
+      n,
+      u,
+      scalar_of t.ty,
+      ty_eq done.ty (n ∷ ns) b e f,
+      r.0,
+      subst (λ v. Has g v t.what) (whole_is t.ty r.0) has,
+      refl,
+    ))
 
 part_step_sound : (g : Visible) (from : Ty) (done next : Path) (x : List ℕ) (p : Place) (o : Option Selected) → part_in g.shapes done.ty x ≡ o →
     Here g from done → Statements.part_step o x p done ≡ Fine next → Here g from next
@@ -101,7 +115,7 @@ plain_kept g s step is none e = subst (Kept g) e (is, none)
 
 assign_sound : (g : Visible) (x : Ident) (steps : List Access) (e : Expr) (o : Option Ty) (step : Step) → type_in g.variables x.id ≡ o →
     and_then (Statements.root o x) (λ start. and_then (Statements.path g start steps) (λ to. and_then (expr g (wanted to.ty) e)
-        (Statements.assigned x to))) ≡ Fine step → Kept g step
+    (Statements.assigned x to))) ≡ Fine step → Kept g step
 assign_sound g x steps e None step found h = absurd cc
 assign_sound g x steps e (Some t) step found h =
     let start : Path = record { steps = []; ty = t } in
@@ -117,7 +131,7 @@ call_sound g f es None step found h = absurd cc
 call_sound g f es (Some s) step found h =
     let z = first_fine (args_of g (InTurn s.item.params) no_args es) (Statements.call_step f s) step h in
     let r = held (agree s.item.params z.0.types && same_ty s.item.result (scalar UnitTy)) (Mismatch f.at) (Statements.plain_step
-        (CallStmt f s.place z.0.whats)) step z.2 in
+    (CallStmt f s.place z.0.whats)) step z.2 in
     let c = both (agree s.item.params z.0.types) (same_ty s.item.result (scalar UnitTy)) r.0 in
     plain_kept g (CallStmt f s.place z.0.whats) step (
       s.item,
@@ -163,7 +177,7 @@ mutual
       plain_kept g (If t.0.what z.0 p) step (is-If g t.0.what z.0 p (condition_has g e t.0 t.1 r.0) (stmts_sound g [] ss z.0 tt z.1)) refl r.1
   stmt_sound g (IfElse' e _ ss _ us p) step h =
       let t = first_fine (expr g unasked e) (λ t. and_then (Statements.stmts g [] ss) (λ thens. and_then (Statements.stmts g [] us)
-          (Statements.if_else_step p t thens))) step h in
+      (Statements.if_else_step p t thens))) step h in
       let z = first_fine (Statements.stmts g [] ss) (λ thens. and_then (Statements.stmts g [] us) (Statements.if_else_step p t.0 thens)) step t.2 in
       let y = first_fine (Statements.stmts g [] us) (Statements.if_else_step p t.0 z.0) step z.2 in
       let r = held (Statements.is_condition t.0) (Mismatch p) (Statements.plain_step (IfElse t.0.what z.0 y.0 p)) step y.2 in
@@ -177,7 +191,7 @@ mutual
   stmt_sound g (For' x a n _ ss p) step h =
       let s = Statements.with_index x g in
       let t = first_fine (expr g unasked a) (λ first. and_then (expr g unasked n) (λ turns. and_then (Statements.stmts s [] ss)
-          (Statements.for_step x p first turns))) step h in
+      (Statements.for_step x p first turns))) step h in
       let u = first_fine (expr g unasked n) (λ turns. and_then (Statements.stmts s [] ss) (Statements.for_step x p t.0 turns)) step t.2 in
       let z = first_fine (Statements.stmts s [] ss) (Statements.for_step x p t.0 u.0) step u.2 in
       let r = held (Statements.is_count t.0 && Statements.is_count u.0) (Mismatch p) (Statements.plain_step (For x t.0.what u.0.what z.0 p)) step z.2 in
@@ -190,7 +204,7 @@ mutual
   stmts_sound g done end_of-Stmt z k h = subst (AreStmtsOf g) (same_fine done z h) k
   stmts_sound g done (more_of-Stmt s ss) z k h =
       let f = first_fine (Statements.stmt (behind g done) s) (λ step. Statements.stmts (declare step.declares (behind g done))
-          (done ++ step.what ∷ []) ss) z h in
+      (done ++ step.what ∷ []) ss) z h in
       let is = stmt_sound (behind g done) s f.0 f.1 in
       stmts_sound g (done ++ f.0.what ∷ []) ss z (are_more g done f.0.what k is.0)
       (subst (λ v. Statements.stmts v (done ++ f.0.what ∷ []) ss ≡ Fine z) (scope_more g done f.0 is.1) f.2)
@@ -198,11 +212,14 @@ mutual
 -- The statements of a body keep their rules, and what is in scope behind them is what they bring.
 pub body_stmts : (g : Visible) (done ss : List Stmt) (z : Statements.Stmts) → AreStmtsOf g done → Statements.stmts_of (behind g done) done ss ≡ Fine z →
     AreStmtsOf g z.done × (z.scope ≡ behind g z.done)
-body_stmts g done [] z k h = subst (λ (y : Statements.Stmts). AreStmtsOf g y.done × (y.scope ≡ behind g y.done)) (same_fine (record { done = done; scope =
-    behind g done }) z h) (k, refl)
+body_stmts g done [] z k h = subst (λ (y : Statements.Stmts). AreStmtsOf g y.done × (y.scope ≡ behind g y.done)) (same_fine (record {
+  done = done;
+  scope =
+      behind g done;
+}) z h) (k, refl)
 body_stmts g done (s ∷ ss) z k h =
     let f = first_fine (Statements.stmt (behind g done) s) (λ step. Statements.stmts_of (declare step.declares (behind g done))
-        (done ++ step.what ∷ []) ss) z h in
+    (done ++ step.what ∷ []) ss) z h in
     let is = stmt_sound (behind g done) s f.0 f.1 in
     body_stmts g (done ++ f.0.what ∷ []) ss z (are_more g done f.0.what k is.0)
     (subst (λ v. Statements.stmts_of v (done ++ f.0.what ∷ []) ss ≡ Fine z) (scope_more g done f.0 is.1) f.2)
@@ -241,8 +258,11 @@ fun_end_sound : (g : Visible) (t : Option Ty) (p : Place) (r : Option Return) (s
     s.scope ≡ behind g s.done →
     Statements.fun_end t p r s ≡ Fine x → IsBody g (result_if t) x.what
 fun_end_sound g None p None s x k e h =
-    subst (λ (y : TypedBody). IsBody g (scalar UnitTy) y.what) (same_fine (Statements.body_of s.done None (scalar UnitTy)) x h) (record { statements =
-        k; result = refl })
+    subst (λ (y : TypedBody). IsBody g (scalar UnitTy) y.what) (same_fine (Statements.body_of s.done None (scalar UnitTy)) x h) (record {
+      statements =
+          k;
+      result = refl;
+    })
 fun_end_sound g None p (Some r) s x k e h =
     let t = first_fine (expr s.scope unasked r.value) (λ y. Broken (Mismatch p)) x h in absurd (never p x t.2)
   where

@@ -47,7 +47,7 @@ abbrev mutual
       × Has g (scalar BoolTy) e × IsComp g is a c r v × IsComp g is a d s v
   IsComp g is a (Map f k p) out v =
       (s : Signature) × (slice_get g.functions k ≡ Some s) × (s.params ≡ a ∷ []) × (same_ty s.result (scalar UnitTy) ≡ false) × (out ≡ Some s.result) ×
-          (v ≡ None)
+      (v ≡ None)
   IsComp g is a (Filter f k p) out v =
       (s : Signature) × (slice_get g.functions k ≡ Some s) × (s.params ≡ a ∷ []) × (s.result ≡ scalar BoolTy) × (out ≡ Some a) × (v ≡ None)
   IsComp g is a (Call f k es) out v =
