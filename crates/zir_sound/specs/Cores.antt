@@ -36,7 +36,7 @@ pub record IsTop (top : Visible) (g : Visible) (functions : List Signature) (var
   pub functions_are : g.functions ≡ functions
   pub variables_are : g.variables ≡ variables
 
--- A function keeps its rules over the structs and the variables that stand before it, the functions that stand before it, and its parameters.
+-- A function keeps its rules over the functions that stand before it alone, its parameters, and some of the first structs and top variables.
 pub record IsFunction (top : Visible) (before : List Signature) (f : Function) : Type 0 where
   pub seen : Visible
   pub variables : List Seen
@@ -49,7 +49,7 @@ abbrev pub AreFunctions : Visible → List Signature → List Function → Type 
 AreFunctions top before [] = Unit {0}
 AreFunctions top before (f ∷ fs) = IsFunction top before f × AreFunctions top (before ++ signature_of f ∷ []) fs
 
--- A top variable has an initial value of its type, over the structs and functions that stand before it and the variables before it.
+-- The initial value of a top variable, where there is one, has its type, over the variables before it alone and some of the first structs and functions.
 pub record IsTopVar (top : Visible) (before : List Seen) (v : Var) : Type 0 where
   pub seen : Visible
   pub functions : List Signature
@@ -57,7 +57,7 @@ pub record IsTopVar (top : Visible) (before : List Seen) (v : Var) : Type 0 wher
   pub is_top : IsTop top seen functions before
   pub initial : IsVar seen v
 
--- Each top variable has an initial value of its type.
+-- The initial value of each top variable, where there is one, has its type.
 abbrev pub AreTopVars : Visible → List Seen → List Var → Type 0
 AreTopVars top before [] = Unit {0}
 AreTopVars top before (v ∷ vs) = IsTopVar top before v × AreTopVars top (before ++ seen_of v ∷ []) vs
