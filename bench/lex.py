@@ -8,28 +8,18 @@ tokens is worked on. Usage, after `make build`: python3 bench/lex.py
 import os
 import subprocess
 import tempfile
-import time
 
-HERE = os.path.dirname(os.path.abspath(__file__))
-ZIRIA = os.path.join(HERE, "..", "crates", "ziria", "out", "ziria")
+from measure import HERE, ZIRIA, shortest
+
 LINE = b"let comp main = read[bit] >>> { x <- take; y <- take; emit x ^ y; return () } >>> write[bit]\n"
 LONGEST = 65536
 RUNS = 200
 
 
-def seconds(words):
-    began = time.perf_counter()
-    subprocess.run(words, stdin=subprocess.DEVNULL, stdout=subprocess.DEVNULL, stderr=subprocess.DEVNULL)
-    return time.perf_counter() - began
-
-
 def cost(words, texts):
     """The seconds that the long text costs above the empty one, by the shortest time of each."""
-    times = {text: [] for text in texts}
-    for _ in range(RUNS):
-        for text in texts:
-            times[text].append(seconds(words + [text]))
-    empty, long = (min(times[text]) for text in texts)
+    times = shortest({text: words + [text] for text in texts}, RUNS)
+    empty, long = (times[text] for text in texts)
     return long - empty
 
 

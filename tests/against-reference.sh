@@ -17,7 +17,7 @@ fi
 reference=$(cd "$reference" && pwd)
 scratch=$(mktemp -d) || exit 1
 cd "$scratch" || exit 1
-if PYTHONDONTWRITEBYTECODE=1 python3 "$reference/fuzz.py" --bin "$root/crates/ziria/out/ziria" --profile r3 --seed 1 --count "${CASES:-300}"; then
+if PYTHONDONTWRITEBYTECODE=1 python3 "$reference/fuzz.py" --bin "$root/crates/ziria/out/ziria" --profile r4 --seed 1 --count "${CASES:-300}"; then
     rm -r "$scratch"
 else
     echo "against-reference: the cases that differ stand in $scratch/fuzz_out"

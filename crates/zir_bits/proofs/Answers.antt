@@ -3,13 +3,18 @@ use Rattle.std.specs.Prelude.{ℕ, ◌+◌, List, ◌≡◌, refl, true, false, 
 use Rattle.std.proofs.Common.{ap, ◌∙◌}
 use Rattle.std.proofs.Math.Nat.{zero-add}
 use Rattle.zir_tree.specs.declared.types.Base.TheVariants.{Bit as BitTy}
+use Rattle.zir_tree.specs.declared.types.Ty.{Ty}
+use Rattle.zir_tree.specs.declared.stmt.Var.{Var}
+use Rattle.zir_tree.specs.declared.comp.Comp.{Comp}
 use Rattle.zir_tree.specs.declared.format.Format.TheVariants.{Binary}
-use Rattle.zir_tree.specs.declared.program.Core.{Core}
 use Rattle.zir_meaning.specs.Trace as wide_traces
+use Rattle.zir_meaning.specs.Evaluation.{with_value}
+use Rattle.zir_meaning.specs.Functions.{library_of}
 use Rattle.zir_meaning.specs.Instances.{means, around, comps_of}
 use Rattle.zir_meaning.specs.Composition as wide_joins
 use Rattle.zir_meaning.specs.Elements as wide_elements
 use Rattle.zir_meaning.specs.Run as wide_runs
+use Rattle.zir_meaning.specs.Run.{top_values}
 use Rattle.zir_meaning.specs.Answer as wide
 use Rattle.zir_bit_tree.specs.declared.value.Val.{Val}
 use Rattle.zir_bit_tree.specs.declared.value.Val.TheVariants.{Unit as UnitVal, Bit as BitVal}
@@ -22,7 +27,7 @@ use Rattle.zir_bit_meaning.specs.Samples.{Ended, bits_of, elements, element_valu
 use Rattle.zir_bit_meaning.specs.Run.{run_end, start}
 use Rattle.zir_bit_meaning.specs.Notes.{note_of}
 use Rattle.zir_bit_meaning.specs.Answer.{status_of}
-use Rattle.zir_bits.specs.Wide.{wide_value, plain, core_of}
+use Rattle.zir_bits.specs.Wide.{wide_value, wide_comp, plain}
 use Rattle.zir_bits.specs.Traces.{wide_out, wide_end, wide_trace}
 use Rattle.zir_bits.specs.Answers.{SameAnswers}
 use Rattle.zir_bits.proofs.Lists.{map-length}
@@ -78,12 +83,25 @@ trace-answer ticks program t sound =
     ∙ notes-same t.end t.last program ticks t.last.taken (length (values t.outs)) sound.end in
     λ i. record { status = status i; out = out i; notes = notes i }
 
--- a program whose component emits bits alone has one answer
+-- what is answered where these are the top variables, the component, and the types of the input and of the output
+abbrev answer_with : ℕ → wide.Loaded → List Var → Comp → Ty → Ty → List ℕ → wide.Answer
+answer_with ticks program variables main input output bytes =
+    let es = wide_elements.elements Binary input bytes true in
+    let first = top_values (library_of program.core.structs program.core.functions) variables (wide_runs.start ticks) in
+    let t = with_value first (wide_elements.element_values es.found) (λ v s xs. means program.core main s xs) in
+    let r = wide_runs.last_run es.tail 0 0 t in
+    record {
+      status = wide.status_of r.end;
+      out = wide_elements.spell Binary output r.outs true;
+      notes = wide.note_of r.end program ticks r.taken (length r.outs);
+    }
+
+-- a typed program that is a program over bits, whose component emits bits alone, has one answer
 pub answers-same : SameAnswers
-answers-same ticks name at program bytes bits =
-    let core : Core = core_of at program in
+answers-same ticks name core program bytes over bits =
     let loaded : wide.Loaded = record { name = name; core = core } in
     let xs : List Val = element_values (elements bytes true).found in
-    ap (λ ys. answer_over ticks loaded (means core core.main (wide_runs.start ticks) ys)) (elements-same bytes)
+    (λ i. answer_with ticks loaded (over.variables i) (over.main i) (over.input i) (over.output i) bytes)
+    ∙ ap (λ ys. answer_over ticks loaded (means core (wide_comp program.main) (wide_runs.start ticks) ys)) (elements-same bytes)
     ∙ ap (answer_over ticks loaded) (tr-wide (around core) (comps_of (around core) core.instances) program.main (start ticks) xs)
     ∙ trace-answer ticks loaded (tr program.main (start ticks) xs) (tr-sound program.main bits (start ticks) xs tt (numbered-bits 0 (bits_of bytes)))

@@ -1,9 +1,8 @@
--- Values, expressions, components and programs over bits as those of the whole language.
+-- Values, expressions, components and types over bits as those of the whole language.
 use Rattle.std.specs.Prelude.{List, [], ◌∷◌, Option, Some, None}
 use Rattle.zir_tree.specs.declared.ident.Ident.{Ident}
-use Rattle.zir_tree.specs.declared.place.Place.{Place}
 use Rattle.zir_tree.specs.declared.types.Base.{Base}
-use Rattle.zir_tree.specs.declared.types.Base.TheVariants.{Unit as UnitTy, Bit as BitTy}
+use Rattle.zir_tree.specs.declared.types.Base.TheVariants.{Bit as BitTy}
 use Rattle.zir_tree.specs.declared.types.Ty.{Ty}
 use Rattle.zir_tree.specs.declared.value.Val as wide_val
 use Rattle.zir_tree.specs.declared.expr.Operator.TheVariants.{BitXor}
@@ -11,12 +10,10 @@ use Rattle.zir_tree.specs.declared.expr.Expr as wide_tree_expr
 use Rattle.zir_tree.specs.declared.comp.Link.TheVariants.{Serial}
 use Rattle.zir_tree.specs.declared.comp.Comp as wide_tree_comp
 use Rattle.zir_tree.specs.declared.comp.Member as wide_tree_member
-use Rattle.zir_tree.specs.declared.program.Core.{Core}
 use Rattle.zir_bit_tree.specs.declared.value.Val.{Val}
 use Rattle.zir_bit_tree.specs.declared.value.Val.TheVariants.{Unit as UnitVal, Bit as BitVal}
 use Rattle.zir_bit_tree.specs.declared.tree.Expr.{Expr, Unit, Bit, Variable, Xor', end_of-Expr, more_of-Expr}
 use Rattle.zir_bit_tree.specs.declared.tree.Comp.{Comp, Take, Emit, Return, Block', Repeat', Pipe', end_of-Comp, more_of-Comp, Row_of-Member, end_of-Member, more_of-Member}
-use Rattle.zir_bit_tree.specs.declared.tree.Prog.{Prog}
 
 -- a value
 abbrev pub wide_value : Val → wide_val.Val
@@ -53,44 +50,3 @@ abbrev mutual
 -- a type that is no array
 abbrev pub plain : Base → Ty
 plain base = record { lengths = []; base = base }
-
--- the type of an expression, all of whose names are bits
-abbrev pub expr_type : Expr → Ty
-expr_type (Unit p) = plain UnitTy
-expr_type (Bit b p) = plain BitTy
-expr_type (Variable name) = plain BitTy
-expr_type (Xor' _ (more_of-Expr a end_of-Expr) _ (more_of-Expr b end_of-Expr) p) = plain BitTy
-
--- the first of two types that is there
-abbrev pub either_type : Option Ty → Option Ty → Option Ty
-either_type (Some t) other = Some t
-either_type None other = other
-
-abbrev mutual
-  -- the type of a component's value, and none where it goes on for ever
-  pub value_type : Comp → Option Ty
-  value_type (Take p) = Some (plain BitTy)
-  value_type (Emit e p) = Some (plain UnitTy)
-  value_type (Return e p) = Some (expr_type e)
-  value_type (Block' _ ms p) = last_type ms (Some (plain UnitTy))
-  value_type (Repeat' _ (more_of-Comp c end_of-Comp) p) = None
-  value_type (Pipe' _ (more_of-Comp a end_of-Comp) _ (more_of-Comp b end_of-Comp) p) = either_type (value_type a) (value_type b)
-
-  -- the type of the last member's value, and the given one where there is no member
-  pub last_type : {m : _} → Row_of-Member m → Option Ty → Option Ty
-  last_type end_of-Member t = t
-  last_type (more_of-Member name c ms) t = last_type ms (value_type c)
-
--- a program whose `let` stands at this place: it has no declarations, and reads and writes bits
-abbrev pub core_of : Place → Prog → Core
-core_of at program = record {
-  structs = [];
-  variables = [];
-  functions = [];
-  instances = [];
-  main = wide_comp program.main;
-  input = plain BitTy;
-  output = plain BitTy;
-  value = value_type program.main;
-  at = at;
-}

@@ -9,7 +9,8 @@ pub fn same_traces()
     ensures { SameTraces }
 {}
 
-/// A program whose component emits bits alone answers as it does in the whole language.
+/// A typed program of the whole language that is a program over bits, whose component emits bits alone, answers as that
+/// program over bits does.
 pub fn same_answers()
     ensures { SameAnswers }
 {}

@@ -1,7 +1,10 @@
 -- The names of declarations and programs.
 use Rattle.std.specs.Prelude.{List, [], ◌∷◌, ◌++◌, length}
 use Rattle.zir_tree.specs.declared.ident.Ident.{Ident}
+use Rattle.zir_tree.specs.declared.place.Place.{Place}
 use Rattle.zir_tree.specs.declared.types.Field.{Field}
+use Rattle.zir_tree.specs.declared.types.TypeExpr.{TypeExpr}
+use Rattle.zir_tree.specs.declared.comp.Comp.{Comp}
 use Rattle.zir_tree.specs.declared.program.Struct.{Struct}
 use Rattle.zir_tree.specs.declared.program.Function.{Function}
 use Rattle.zir_tree.specs.declared.program.CompFunction.{CompFunction}
@@ -83,10 +86,14 @@ decl_of seen (decl.Struct s) = struct_of seen s
 decl_of seen (decl.Function f) = function_of seen f
 decl_of seen (decl.Comp f) = comp_function_of seen f
 
+-- A program with its names resolved.
+abbrev pub finished : List Decl → TypeExpr → Comp → TypeExpr → Place → Walk Named
+finished declarations input main output at = Fine (record { program = record { declarations = declarations; input = input; main = main; output = output; at = at } })
+
 -- The names of a program: its declarations, the type that it reads, its main component and the type that it writes. It is the program with its
 -- names resolved, or the first refusal in the order of the text.
 abbrev pub names : Prog → Walk Named
 names p =
     and_then (in_turn decl_of nothing_seen p.declarations) (λ ds. and_then (type_of ds.seen p.input) (λ input.
     and_then (comp ds.seen p.main) (λ main. and_then (type_of main.seen p.output) (λ output.
-    Fine (record { program = record { declarations = ds.made; input = input; main = main.made; output = output; at = p.at } })))))
+    finished ds.made input main.made output p.at))))

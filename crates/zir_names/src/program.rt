@@ -1,11 +1,11 @@
 // The names of declarations and programs.
 
 ghost use Rattle.std.specs.Prelude.{◌≡◌, [], OnOk, IfOk};
-ghost use Rattle.zir_names.specs.Walk.{Told};
+ghost use Rattle.zir_names.specs.Walk.{Told, Walk, and_then};
 ghost use Rattle.zir_names.specs.Scope.{ToldIn};
 ghost use Rattle.zir_names.specs.Expressions.{maybe, type_of};
 ghost use Rattle.zir_names.specs.Statements.{in_turn};
-ghost use Rattle.zir_names.specs.Programs.{fields as fields_walk, params as params_walk, entered, struct_of, function_of, comp_function_of, decl_of, names};
+ghost use Rattle.zir_names.specs.Programs.{fields as fields_walk, params as params_walk, entered, struct_of, function_of, comp_function_of, decl_of, finished, names};
 
 use crate::component::{resolve_comp, resolve_part};
 use crate::error::NameError;
@@ -14,8 +14,10 @@ use crate::scope::{Kind, Scope};
 use crate::statement::{resolve_body, resolve_var};
 use sqlite_items::Items;
 use std::alloc::{AllocError, Global};
+use zir_tree::comp::Comp;
 use zir_tree::ident::Ident;
 use zir_tree::name::Name;
+use zir_tree::place::Place;
 use zir_tree::program::{CompFunction, Decl, Function, Prog, Struct};
 use zir_tree::stmt::Var;
 use zir_tree::types::{Field, TypeExpr};
@@ -201,24 +203,45 @@ fn resolve_decls(alloc: Global, scope: &mut Scope, ds: &[Decl]) -> Result<Items<
     Ok(made)
 }
 
+/// A program whose parts are resolved, or why the type that it writes is refused.
+fn finish(
+    declarations: Items<Decl>,
+    input: TypeExpr,
+    main: Comp,
+    output: Result<TypeExpr, NameError>,
+    at: Place,
+) -> Result<Named, NameError>
+    ensures { (walk : Walk TypeExpr) → Told walk output → Told (and_then walk (λ o. finished declarations input main o at)) result }
+{
+    match output {
+        Ok(output) => Ok(Named {
+            program: Prog {
+                declarations,
+                input,
+                main,
+                output,
+                at,
+            },
+        }),
+        Err(error) => {
+            drop(declarations);
+            drop(input);
+            drop(main);
+            Err(error)
+        }
+    }
+}
+
 /// The program with its names resolved. A refusal is the first in the order of the text: `Unknown` where no declaration of
 /// the kind that a place needs is in scope, `Twice` at the second of two declarations with one name, `Recursive` where a
 /// body names its own function or struct. `Memory` comes where memory runs out.
-pub fn resolve(alloc: Global, p: Prog) -> Result<Named, NameError>
-    ensures { Told (names p) result }
+pub fn resolve(alloc: Global, p: &Prog) -> Result<Named, NameError>
+    ensures { Told (names p.now) result }
 {
     let mut scope = Scope::new(alloc);
     let declarations = resolve_decls(alloc, &mut scope, p.declarations.as_slice())?;
     let input = resolve_type(alloc, &scope, &p.input)?;
     let main = resolve_comp(alloc, &mut scope, &p.main)?;
-    let output = resolve_type(alloc, &scope, &p.output)?;
-    let at = p.at;
-    let program = Prog {
-        declarations,
-        input,
-        main,
-        output,
-        at,
-    };
-    Ok(Named { program })
+    let output = resolve_type(alloc, &scope, &p.output);
+    finish(declarations, input, main, output, p.at)
 }

@@ -1,5 +1,5 @@
 -- The equations of components at the trees that code has.
-use Rattle.std.specs.Prelude.{◌≡◌, List, [], Bool, refl}
+use Rattle.std.specs.Prelude.{◌≡◌, List, [], refl}
 use Rattle.std.proofs.Common.{ap}
 use denote.Hole.Carrier.{hidden}
 use Rattle.zir_tree.specs.declared.place.Place.{Place}
@@ -11,17 +11,17 @@ use Rattle.zir_bit_tree.specs.declared.tree.Comp as bit_comp
 use Rattle.zir_narrow.specs.Narrow.{Fine, and_then, allowed, is_serial, body, component}
 use Rattle.zir_narrow.proofs.Lists.{each, members-list}
 
-pub component-Repeat : (any : Bool) (c : Comp) (at : Place) →
-    component any (Repeat c at) ≡ and_then (body any c) (λ made. Fine (bit_comp.Repeat made at))
+pub component-Repeat : (c : Comp) (at : Place) →
+    component (Repeat c at) ≡ and_then (body c) (λ made. Fine (bit_comp.Repeat made at))
 unfolding shape-the_row-Comp-0 hidden-the_row-Comp-0 hidden
-component-Repeat any c at = refl
+component-Repeat c at = refl
 
-pub component-Pipe : (any : Bool) (link : Link) (c d : Comp) (at : Place) →
-    component any (Pipe link c d at) ≡
-    and_then (component any c) (λ left. and_then (allowed (is_serial link) at (tt {0})) (λ _. and_then (component any d) (λ right. Fine (bit_comp.Pipe left right at))))
+pub component-Pipe : (link : Link) (c d : Comp) (at : Place) →
+    component (Pipe link c d at) ≡
+    and_then (component c) (λ left. and_then (allowed (is_serial link) at (tt {0})) (λ _. and_then (component d) (λ right. Fine (bit_comp.Pipe left right at))))
 unfolding shape-the_row-Comp-0 hidden-the_row-Comp-0 hidden
-component-Pipe any link c d at = refl
+component-Pipe link c d at = refl
 
-pub component-Block : (any : Bool) (ms : List Member) (at : Place) →
-    component any (Block ms at) ≡ and_then (each any [] ms) (λ made. Fine (bit_comp.Block made at))
-component-Block any ms at = ap (λ w. and_then w (λ made. Fine (bit_comp.Block made at))) (members-list any [] ms)
+pub component-Block : (ms : List Member) (at : Place) →
+    component (Block ms at) ≡ and_then (each [] ms) (λ made. Fine (bit_comp.Block made at))
+component-Block ms at = ap (λ w. and_then w (λ made. Fine (bit_comp.Block made at))) (members-list [] ms)

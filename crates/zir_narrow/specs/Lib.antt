@@ -1,3 +1,2 @@
 pub mod Narrow
-pub mod Kinds
-pub mod Judging
+pub mod Laws

@@ -1,12 +1,14 @@
-// From a program as it is read to the program over bits that it is.
+// From an accepted program to the program over bits that it is.
 
 ghost use Rattle.std.specs.Prelude.{◌≡◌, ◌++◌, ◌∷◌, [], IfOk, OnOk, None};
 ghost use Rattle.zir_bit_tree.specs.declared.tree.Expr.{Variable, Xor};
 ghost use Rattle.zir_bit_tree.specs.declared.tree.Comp.{Pipe, Repeat};
 ghost use Rattle.zir_tree.specs.declared.comp.Comp.{Block};
 ghost use Rattle.zir_narrow.specs.declared.narrow.NarrowError.TheVariants.{Memory};
-ghost use Rattle.zir_narrow.specs.Narrow.{Told, Fine, and_then, allowed, behind, body as body_of, bound_member, component as component_of, declaration_place as place_of_declaration};
-ghost use Rattle.zir_narrow.specs.Narrow.{expr, in_scope, is_bit, is_bound, is_serial, is_xor, member, named, narrow, no_declarations, of_bits, place_of, plain_member, returned};
+ghost use Rattle.zir_narrow.specs.Narrow.{Told, Fine, and_then, allowed, behind, body as body_of, bound_member, component as component_of};
+ghost use Rattle.zir_narrow.specs.Narrow.{declaration_place as place_of_declaration};
+ghost use Rattle.zir_narrow.specs.Narrow.{expr, is_bit, is_bit_xor, is_bound, is_serial, member, named, narrow, no_declarations, no_variables, of_bits};
+ghost use Rattle.zir_narrow.specs.Narrow.{place_of, plain_member, returned};
 
 use sqlite_items::{Boxed, Items};
 use std::alloc::{AllocError, AllocFailed, Global};
@@ -16,8 +18,9 @@ use zir_tree::expr::{Expr, Operator};
 use zir_tree::ident::Ident;
 use zir_tree::name::Name;
 use zir_tree::place::Place;
-use zir_tree::program::{Decl, Prog};
-use zir_tree::types::{Base, Dimension, TypeExpr};
+use zir_tree::program::{Core, Decl, Prog};
+use zir_tree::stmt::Var;
+use zir_tree::types::{Base, Ty};
 
 /// Why a program is none over bits.
 #[derive(Clone, Copy, Debug, PartialEq, Eq)]
@@ -44,16 +47,17 @@ impl<T: Drop> From<AllocFailed<T>> for NarrowError {
     }
 }
 
-/// The program over bits that a program is; `Unbuilt` exactly where it is none, at the place of the first form of the
-/// text that is none. Where `any` is set names are not resolved, and any name may stand; else only one that a `take`
-/// before it in its block binds. `Memory` comes where memory runs out.
-pub fn narrow_program(alloc: Global, any: bool, p: &Prog) -> Result<bits::Prog, NarrowError>
-    ensures { Told (narrow any p.now) result }
+/// The program over bits that an accepted program is. `p` is the program as it was read, `core` what it was accepted as.
+/// `Unbuilt` comes exactly where it is no program over bits, at the place of the first form of the text that is none;
+/// `Memory` comes where memory runs out.
+pub fn narrow_program(alloc: Global, p: &Prog, core: &Core) -> Result<bits::Prog, NarrowError>
+    ensures { Told (narrow p.now core.now) result }
 {
     check_declarations(p.declarations.as_slice())?;
-    check_type(&p.input)?;
-    let main = component(alloc, any, &p.main)?;
-    check_type(&p.output)?;
+    check_variables(core.variables.as_slice())?;
+    check_type(&core.input, p.input.at)?;
+    let main = component(alloc, &core.main)?;
+    check_type(&core.output, p.output.at)?;
     Ok(bits::Prog {
         input: bits::Ty::Bit,
         main,
@@ -71,17 +75,27 @@ fn check_declarations(declarations: &[Decl]) -> Result<(), NarrowError>
     }
 }
 
-/// What is read or written is bits.
-fn check_type(ty: &TypeExpr) -> Result<(), NarrowError>
-    ensures { Told (of_bits ty.now) result }
+/// A program over bits has no top variables.
+fn check_variables(variables: &[Var]) -> Result<(), NarrowError>
+    ensures { Told (no_variables variables.now) result }
 {
-    check(is_bit_type(ty.dimensions.as_slice(), ty.base), ty.at)
+    match variables {
+        [] => Ok(()),
+        [first, ..] => Err(NarrowError::Unbuilt(first.at)),
+    }
 }
 
-fn is_bit_type(dimensions: &[Dimension], base: Base) -> bool
-    ensures { result ≡ is_bit dimensions.now base }
+/// What is read or written is bits.
+fn check_type(ty: &Ty, at: Place) -> Result<(), NarrowError>
+    ensures { Told (of_bits ty.now at) result }
 {
-    match dimensions {
+    check(is_bit_type(ty.lengths.as_slice(), ty.base), at)
+}
+
+fn is_bit_type(lengths: &[u64], base: Base) -> bool
+    ensures { result ≡ is_bit lengths.now base }
+{
+    match lengths {
         [] => matches!(base, Base::Bit),
         [_, ..] => false,
     }
@@ -135,16 +149,16 @@ fn place(c: &Comp) -> Place
 }
 
 /// A component over bits: blocks, loops of blocks, and compositions of both.
-fn component(alloc: Global, any: bool, c: &Comp) -> Result<bits::Comp, NarrowError>
-    ensures { Told (component_of any c.now) result }
+fn component(alloc: Global, c: &Comp) -> Result<bits::Comp, NarrowError>
+    ensures { Told (component_of c.now) result }
 {
     match c {
-        Comp::Block(members, at) => block_of(alloc, any, members.as_slice(), *at),
-        Comp::Repeat(inner, at) => repeated(alloc, any, inner.get(), *at),
+        Comp::Block(members, at) => block_of(alloc, members.as_slice(), *at),
+        Comp::Repeat(inner, at) => repeated(alloc, inner.get(), *at),
         Comp::Pipe(link, left, right, at) => {
-            let left = component(alloc, any, left.get())?;
+            let left = component(alloc, left.get())?;
             check(is_sequence(*link), *at)?;
-            let right = component(alloc, any, right.get())?;
+            let right = component(alloc, right.get())?;
             joined(alloc, left, right, *at)
         }
         other => Err(NarrowError::Unbuilt(place(other))),
@@ -172,25 +186,25 @@ fn joined(
 }
 
 /// A loop, whose body is a block.
-fn repeated(alloc: Global, any: bool, inner: &Comp, at: Place) -> Result<bits::Comp, NarrowError>
-    ensures { Told (and_then (body_of any inner.now) (λ c. Fine (Repeat c at))) result }
+fn repeated(alloc: Global, inner: &Comp, at: Place) -> Result<bits::Comp, NarrowError>
+    ensures { Told (and_then (body_of inner.now) (λ c. Fine (Repeat c at))) result }
 {
     let inner = match inner {
-        Comp::Block(members, here) => block_of(alloc, any, members.as_slice(), *here)?,
+        Comp::Block(members, here) => block_of(alloc, members.as_slice(), *here)?,
         other => return Err(NarrowError::Unbuilt(place(other))),
     };
     Ok(bits::Comp::Repeat(Boxed::new(alloc, inner)?, at))
 }
 
 /// A block of members.
-fn block_of(alloc: Global, any: bool, ms: &[Member], at: Place) -> Result<bits::Comp, NarrowError>
-    ensures { Told (component_of any (Block ms.now at)) result }
+fn block_of(alloc: Global, ms: &[Member], at: Place) -> Result<bits::Comp, NarrowError>
+    ensures { Told (component_of (Block ms.now at)) result }
 {
     let mut made = Items::new(alloc);
     let mut bound = Vec::new(alloc);
     for (index, m) in ms.iter().enumerate() {
         let last = index + 1 == ms.len();
-        let narrowed = member_of(alloc, any, bound.as_slice(), last, m)?;
+        let narrowed = member_of(alloc, bound.as_slice(), last, m)?;
         made.push(narrowed)?;
         enter(&mut bound, m)?;
     }
@@ -217,17 +231,16 @@ fn push_number(bound: &mut Vec<u32>, id: u32) -> Result<(), AllocError>
 /// A member, which stands at the end of its block or not.
 fn member_of(
     alloc: Global,
-    any: bool,
     bound: &[u32],
     last: bool,
     m: &Member,
 ) -> Result<bits::Member, NarrowError>
-    ensures { Told (member any bound.now last m.now) result }
+    ensures { Told (member bound.now last m.now) result }
 {
     match m {
         Member::Bind(x, c) => taken_of(alloc, x, c),
         Member::Var(v) => Err(NarrowError::Unbuilt(v.at)),
-        Member::Run(c) => plain_of(alloc, any, bound, last, c),
+        Member::Run(c) => plain_of(alloc, bound, last, c),
     }
 }
 
@@ -248,14 +261,8 @@ fn taken_of(alloc: Global, x: &Ident, c: &Comp) -> Result<bits::Member, NarrowEr
 }
 
 /// A member without a name: `take` or `emit`, and at the end of its block `emit` or `return`.
-fn plain_of(
-    alloc: Global,
-    any: bool,
-    bound: &[u32],
-    last: bool,
-    c: &Comp,
-) -> Result<bits::Member, NarrowError>
-    ensures { Told (plain_member any bound.now last c.now) result }
+fn plain_of(alloc: Global, bound: &[u32], last: bool, c: &Comp) -> Result<bits::Member, NarrowError>
+    ensures { Told (plain_member bound.now last c.now) result }
 {
     match c {
         Comp::Take(at) => {
@@ -263,12 +270,12 @@ fn plain_of(
             Ok(nameless(bits::Comp::Take(*at)))
         }
         Comp::Emit(e, at) => {
-            let e = expr_of(alloc, any, bound, e)?;
+            let e = expr_of(alloc, bound, e)?;
             Ok(nameless(bits::Comp::Emit(e, *at)))
         }
         Comp::Return(e, at) => {
             check(last, *at)?;
-            returned_of(alloc, any, bound, e, *at)
+            returned_of(alloc, bound, e, *at)
         }
         other => Err(NarrowError::Unbuilt(place(other))),
     }
@@ -283,37 +290,36 @@ fn nameless(what: bits::Comp) -> bits::Member
 /// What is returned: `()`, or an expression of bits.
 fn returned_of(
     alloc: Global,
-    any: bool,
     bound: &[u32],
     e: &Expr,
     at: Place,
 ) -> Result<bits::Member, NarrowError>
-    ensures { Told (returned any bound.now e.now at) result }
+    ensures { Told (returned bound.now e.now at) result }
 {
     match e {
         Expr::Unit(here) => Ok(nameless(bits::Comp::Return(bits::Expr::Unit(*here), at))),
         other => {
-            let e = expr_of(alloc, any, bound, other)?;
+            let e = expr_of(alloc, bound, other)?;
             Ok(nameless(bits::Comp::Return(e, at)))
         }
     }
 }
 
 /// An expression of bits and of bound names.
-fn expr_of(alloc: Global, any: bool, bound: &[u32], e: &Expr) -> Result<bits::Expr, NarrowError>
-    ensures { Told (expr any bound.now e.now) result }
+fn expr_of(alloc: Global, bound: &[u32], e: &Expr) -> Result<bits::Expr, NarrowError>
+    ensures { Told (expr bound.now e.now) result }
 {
     match e {
         Expr::Bit(bit, at) => Ok(bits::Expr::Bit(*bit, *at)),
-        Expr::Variable(x) => variable(alloc, any, bound, x),
-        Expr::Binary(operator, _, a, b, at) => {
-            let a = expr_of(alloc, any, bound, a.get())?;
-            check(is_exclusive(*operator), *at)?;
-            let b = expr_of(alloc, any, bound, b.get())?;
+        Expr::Variable(x) => variable(alloc, bound, x),
+        Expr::Binary(operator, base, a, b, at) => {
+            let a = expr_of(alloc, bound, a.get())?;
+            check(is_xor_of_bits(*operator, *base), *at)?;
+            let b = expr_of(alloc, bound, b.get())?;
             exclusive_or(alloc, a, b, *at)
         }
         Expr::Index(base, _, at) | Expr::Slice(base, _, _, at) | Expr::Part(base, _, _, at) => {
-            let _first = expr_of(alloc, any, bound, base.get())?;
+            let _first = expr_of(alloc, bound, base.get())?;
             Err(NarrowError::Unbuilt(*at))
         }
         Expr::Call(f, _, _) => Err(NarrowError::Unbuilt(f.at)),
@@ -328,10 +334,10 @@ fn expr_of(alloc: Global, any: bool, bound: &[u32], e: &Expr) -> Result<bits::Ex
 }
 
 /// A name that a member before bound.
-fn variable(alloc: Global, any: bool, bound: &[u32], x: &Ident) -> Result<bits::Expr, NarrowError>
-    ensures { Told (allowed (in_scope any bound.now x.now.id) x.now.at (Variable x.now)) result }
+fn variable(alloc: Global, bound: &[u32], x: &Ident) -> Result<bits::Expr, NarrowError>
+    ensures { Told (allowed (is_bound bound.now x.now.id) x.now.at (Variable x.now)) result }
 {
-    check(any || contains(bound, x.id), x.at)?;
+    check(contains(bound, x.id), x.at)?;
     Ok(bits::Expr::Variable(copy_ident(alloc, x)?))
 }
 
@@ -346,10 +352,10 @@ fn contains(bound: &[u32], id: u32) -> bool
     false
 }
 
-fn is_exclusive(operator: Operator) -> bool
-    ensures { result ≡ is_xor operator }
+fn is_xor_of_bits(operator: Operator, base: Base) -> bool
+    ensures { result ≡ is_bit_xor operator base }
 {
-    matches!(operator, Operator::BitXor)
+    matches!(operator, Operator::BitXor) && matches!(base, Base::Bit)
 }
 
 fn exclusive_or(

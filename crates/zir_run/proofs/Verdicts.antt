@@ -1,26 +1,26 @@
 -- What the verdicts on a text say of what is answered.
 use Rattle.std.specs.Prelude.{ℕ, ◌≡◌, ◌≤◌, ◌<◌, ◌⊎◌, refl, List, [], length, Option, Some, Result, Ok, Err}
 use Rattle.std.proofs.Common.{ap, ◌∙◌, sym, subst, inl, inr, arith}
-use Rattle.zir_tree.specs.declared.format.Format.TheVariants.{Binary}
+use Rattle.zir_tree.specs.declared.place.Place.{Place}
 use Rattle.zir_tree.specs.declared.program.Prog as wide
 use Rattle.zir_tree.specs.declared.refusal.Refusal.{Refusal}
 use Rattle.zir_tree.specs.declared.refusal.Refusal.TheVariants as refused
 use Rattle.zir_bit_tree.specs.declared.tree.Prog.{Prog}
-use Rattle.zir_meaning.specs.Answer.{Answer, answer_of}
+use Rattle.zir_meaning.specs.Answer.{Answer}
 use Rattle.zir_lex.specs.declared.lexer.LexError.TheVariants as lex
 use Rattle.zir_outside.specs.Loads.{Texts, IsAbsent}
-use Rattle.zir_words.specs.Words.{Asked, ForRun, ForShow, Ask, AskOnce, name_of}
+use Rattle.zir_words.specs.Words.{Asked, ForRun, Ask, AskOnce, name_of}
 use Rattle.zir_read.specs.Reading.{IsReadAs, unlexed, IsTold as IsVerdict, HasOneVerdict}
-use Rattle.zir_print.specs.Text.{canonical_text}
-use Rattle.zir_bits.specs.Wide.{core_of}
 use Rattle.zir_bits.specs.Answers.{bits_answer, SameAnswers}
-use Rattle.zir_bits.specs.Bits.{EmitsBits}
-use Rattle.zir_narrow.specs.Judging.{judged, Tells}
+use Rattle.zir_accept.specs.declared.passes.Accepted.{Accepted}
+use Rattle.zir_accept.specs.Accepting.{Tells}
+use Rattle.zir_narrow.specs.Narrow.{Narrow, Fine, Stuck, narrow}
+use Rattle.zir_narrow.specs.Laws.{NarrowIsOver}
 use Rattle.zir_notes.specs.Refusals.{refusal_note}
 use Rattle.zir_run.specs.Loading.{Has}
-use Rattle.zir_run.specs.Claim.{LacksText, Names, Means, IsJudged, IsRefusedFor, IsRefused, IsRunOf, IsTextRun, IsShowOf, IsRefusalOf, MeansOf, text_answer, refused_answer}
+use Rattle.zir_run.specs.Claim.{LacksText, Names, Means, MeansOf, IsRefused, IsRunOf, Follows, after_judging, built, for_asked, refused_answer, verdict_on}
 use Rattle.zir_outside.specs.Sinks.{Grew, GrewPart}
-use Rattle.zir_run.specs.Keeping.{Keeps, IsUnrunnable, RunMeans, HasFault}
+use Rattle.zir_run.specs.Keeping.{Keeps, HasFault}
 use Rattle.zir_run.proofs.Keep.{keeps_nothing, keeps_noted}
 
 -- the refusal of a verdict, and its program
@@ -48,85 +48,56 @@ same_program : HasOneVerdict → (text : List ℕ) (p q : wide.Prog) → IsReadA
 unfolding program_of
 same_program one text p q h k = ap (program_of p) (one text (Ok p) (Ok q) tt tt h k)
 
--- why a text that is no program is refused for a run
-run_why : HasOneVerdict → (text : List ℕ) (e why : Refusal) → IsVerdict (Err e) → IsVerdict (Err why) → IsReadAs text (Err why) → IsReadAs text (Err e) ⊎ IsJudged text e → e ≡ why
-run_why one text e why told_e told reads (inl h) = same_refusal one text e why told_e told h reads
-run_why one text e why told_e told reads (inr h) = absurd (never_both one text h.program why told h.reads reads)
+-- what is answered to a text that is a program follows from the verdict on the program
+pub text_means : HasOneVerdict → (asked : Asked) (text : List ℕ) (left : Option (List ℕ)) (a : Answer) (p : wide.Prog) → IsReadAs text (Ok p) → MeansOf asked text left a → Follows asked p (verdict_on asked p) left a
+text_means one asked text left a p reads (inl m) = subst (λ (q : wide.Prog). Follows asked q (verdict_on asked q) left a) (same_program one text m.program p m.reads reads) m.follows
+text_means one asked text left a p reads (inr m) = absurd (never_both one text p m.why m.is_verdict reads m.reads)
 
--- what is answered to a run of a text that is no program
-pub run_note : HasOneVerdict → (ticks : ℕ) (name text : List ℕ) (left : Option (List ℕ)) (a : Answer) (why : Refusal) → IsVerdict (Err why) → IsReadAs text (Err why) → MeansOf (ForRun ticks name) text left a →
-    a ≡ refused_answer name why
-run_note one ticks name text left a why told reads (inl m) = absurd (never_both one text m.program why told m.reads reads)
-run_note one ticks name text left a why told reads (inr m) = m.is ∙ ap (refused_answer name) (run_why one text m.refused.why why m.refused.is_verdict told reads m.refused.refuses)
+-- and so does why it is refused
+pub text_fault : (asked : Asked) (text : List ℕ) (p : wide.Prog) → IsReadAs text (Ok p) → HasFault (verdict_on asked p) → IsRefused asked text
+text_fault asked text p reads h = record { why = h.why; refuses = inr (record { program = p; reads = reads; judges = h.judges }); is_verdict = h.is_verdict }
 
--- what is refused of a text that is a program is the program
-refused_program : HasOneVerdict → (name text : List ℕ) (a : Answer) (p : wide.Prog) (e : Refusal) → IsVerdict (Err e) → IsReadAs text (Ok p) → a ≡ refused_answer name e → IsReadAs text (Err e) ⊎ IsJudged text e →
-    IsUnrunnable name p a
-refused_program one name text a p e told reads is (inl h) = absurd (never_both one text p e told reads h)
-refused_program one name text a p e told reads is (inr h) =
-    record { why = e; judges = subst (λ (q : wide.Prog). judged q ≡ Err e) (same_program one text h.program p h.reads reads) h.judges; is_verdict = told; is = is }
-
--- what is answered to a run of a text that is a program is what is answered to a run of the program
-pub text_means : HasOneVerdict → (ticks : ℕ) (name text : List ℕ) (left : Option (List ℕ)) (a : Answer) (p : wide.Prog) → IsReadAs text (Ok p) → MeansOf (ForRun ticks name) text left a → RunMeans ticks name p left a
-text_means one ticks name text left a p reads (inl m) = inl (subst (λ (q : wide.Prog). IsRunOf ticks name q left a) (same_program one text m.program p m.reads reads) m.runs)
-text_means one ticks name text left a p reads (inr m) = inr (refused_program one name text a p m.refused.why m.refused.is_verdict reads m.is m.refused.refuses)
-
--- and so is why it is refused
-pub text_fault : (ticks : ℕ) (name text : List ℕ) (p : wide.Prog) → IsReadAs text (Ok p) → HasFault p → IsRefused (ForRun ticks name) text
-text_fault ticks name text p reads h = record { why = h.why; refuses = inr (record { program = p; reads = reads; judges = h.judges }); is_verdict = h.is_verdict }
-
--- the program over bits of a verdict, and its refusal
-bits_of : Prog → Result Prog Refusal → Prog
-bits_of n (Ok m) = m
-bits_of n (Err e) = n
-
-fault_of : Refusal → Result Prog Refusal → Refusal
-fault_of e (Ok m) = e
-fault_of e (Err f) = f
-
-abbrev Runs : Result Prog Refusal → Type 0
-Runs (Ok n) = Unit {0}
-Runs (Err e) = ⊥
-
--- a program has one verdict
-same_bits : (v : Result Prog Refusal) (m n : Prog) → v ≡ Ok m → v ≡ Ok n → m ≡ n
-unfolding bits_of
-same_bits v m n h k = ap (bits_of n) (sym h ∙ k)
-
-same_fault : (v : Result Prog Refusal) (e f : Refusal) → v ≡ Err e → v ≡ Err f → e ≡ f
-unfolding fault_of
-same_fault v e f h k = ap (fault_of f) (sym h ∙ k)
-
-never_runs : (v : Result Prog Refusal) (n : Prog) (e : Refusal) → v ≡ Ok n → v ≡ Err e → ⊥
-never_runs v n e h k = subst Runs (sym h ∙ k) tt
-
--- what holds of the answer of the program over bits that a program is holds of what the definition answers
-pub program_means : SameAnswers → (ticks : ℕ) (name : List ℕ) (p : wide.Prog) (left : Option (List ℕ)) (a : Answer) (n : Prog) (P : Answer → Type 0) → judged p ≡ Ok n → EmitsBits n.main → RunMeans ticks name p left a →
-    ((input : List ℕ) → left ≡ Some input → P (bits_answer ticks n input)) → P a
-program_means same ticks name p left a n P runs bits (inl m) holds =
-    let narrowed : n ≡ m.narrowed = same_bits (judged p) n m.narrowed runs m.runs in
-    subst P (sym (same ticks name p.at n m.input bits) ∙ ap (λ (q : Prog). answer_of Binary ticks (record { name = name; core = core_of p.at q }) [] m.input) narrowed ∙ sym m.is) (holds m.input m.has)
-program_means same ticks name p left a n P runs bits (inr m) holds = absurd (never_runs (judged p) n m.why runs m.judges)
+-- what is answered to a text that is no program
+pub text_note : HasOneVerdict → (asked : Asked) (text : List ℕ) (left : Option (List ℕ)) (a : Answer) (why : Refusal) → IsVerdict (Err why) → IsReadAs text (Err why) → MeansOf asked text left a →
+    a ≡ refused_answer (name_of asked) why
+text_note one asked text left a why told reads (inl m) = absurd (never_both one text m.program why told m.reads reads)
+text_note one asked text left a why told reads (inr m) = m.is ∙ ap (refused_answer (name_of asked)) (same_refusal one text m.why why m.is_verdict told m.reads reads)
 
 -- a verdict that was told, but want of memory, is the verdict
-pub told_fault : (v : Result Prog Refusal) (why : Refusal) → IsVerdict (Err why) → Tells v (Err why) → v ≡ Err why
+pub told_fault : (v : Result Accepted Refusal) (why : Refusal) → IsVerdict (Err why) → Tells v (Err why) → v ≡ Err why
 told_fault v refused.Memory told tells = absurd told
 told_fault v why told tells = tells
 
--- what is answered to a run of a program that does not run
-pub program_note : (ticks : ℕ) (name : List ℕ) (p : wide.Prog) (left : Option (List ℕ)) (a : Answer) (why : Refusal) → judged p ≡ Err why → RunMeans ticks name p left a → a ≡ refused_answer name why
-program_note ticks name p left a why judges (inl m) = absurd (never_runs (judged p) m.narrowed why m.runs judges)
-program_note ticks name p left a why judges (inr m) = m.is ∙ ap (refused_answer name) (same_fault (judged p) m.why why m.judges judges)
+-- what is answered for a program that is accepted, and for one that is refused
+pub accepted_means : (asked : Asked) (p : wide.Prog) (v : Result Accepted Refusal) (left : Option (List ℕ)) (a : Answer) (accepted : Accepted) → v ≡ Ok accepted →
+    Follows asked p (after_judging asked p v) left a → Follows asked p (for_asked asked p accepted) left a
+accepted_means asked p v left a accepted is m = subst (λ w. Follows asked p (after_judging asked p w) left a) is m
 
--- what is shown of a program, and noted of a text that is none
-pub shown : HasOneVerdict → (name text : List ℕ) (left : Option (List ℕ)) (a : Answer) (p : wide.Prog) → IsReadAs text (Ok p) → MeansOf (ForShow name) text left a → a ≡ text_answer (canonical_text p)
-shown one name text left a p reads (inl m) = m.is ∙ ap (λ q. text_answer (canonical_text q)) (same_program one text m.program p m.reads reads)
-shown one name text left a p reads (inr m) = absurd (never_both one text p m.refused.why m.refused.is_verdict reads m.refused.refuses)
+pub accepted_fault : (asked : Asked) (p : wide.Prog) (v : Result Accepted Refusal) (accepted : Accepted) → v ≡ Ok accepted → HasFault (for_asked asked p accepted) → HasFault (after_judging asked p v)
+accepted_fault asked p v accepted is h = subst (λ w. HasFault (after_judging asked p w)) (sym is) h
 
-pub show_note : HasOneVerdict → (name text : List ℕ) (left : Option (List ℕ)) (a : Answer) (why : Refusal) → IsVerdict (Err why) → IsReadAs text (Err why) → MeansOf (ForShow name) text left a →
-    a ≡ refused_answer name why
-show_note one name text left a why told reads (inl m) = absurd (never_both one text m.program why told m.reads reads)
-show_note one name text left a why told reads (inr m) = m.is ∙ ap (refused_answer name) (same_refusal one text m.refused.why why m.refused.is_verdict told m.refused.refuses reads)
+pub refused_means : (asked : Asked) (p : wide.Prog) (v : Result Accepted Refusal) (left : Option (List ℕ)) (a : Answer) (why : Refusal) → v ≡ Err why →
+    Follows asked p (after_judging asked p v) left a → a ≡ refused_answer (name_of asked) why
+refused_means asked p v left a why is m = let f : Follows asked p (Err why) left a = subst (λ w. Follows asked p (after_judging asked p w) left a) is m in f.1
+
+pub refused_fault : (asked : Asked) (p : wide.Prog) (v : Result Accepted Refusal) (why : Refusal) → IsVerdict (Err why) → v ≡ Err why → HasFault (after_judging asked p v)
+refused_fault asked p v why told is = subst (λ w. HasFault (after_judging asked p w)) (sym is) (record { why = why; judges = refl; is_verdict = told })
+
+-- what holds of the answer of the program over bits that an accepted one is holds of what is answered to its run
+pub run_means : SameAnswers → NarrowIsOver → (ticks : ℕ) (name : List ℕ) (p : wide.Prog) (accepted : Accepted) (left : Option (List ℕ)) (a : Answer) (n : Prog) (P : Answer → Type 0) → narrow p accepted.core ≡ Fine n →
+    Follows (ForRun ticks name) p (built (narrow p accepted.core) accepted) left a → ((input : List ℕ) → left ≡ Some input → P (bits_answer ticks n input)) → P a
+run_means same over ticks name p accepted left a n P is follows holds =
+    let m : IsRunOf ticks name accepted.core left a = subst (λ v. Follows (ForRun ticks name) p (built v accepted) left a) is follows in
+    let bits = over p accepted.core n is in
+    subst P (sym (same ticks name accepted.core n m.input bits.0 bits.1) ∙ sym m.is) (holds m.input m.has)
+
+-- what is answered to a run of a program with a form that nothing runs yet
+pub unbuilt_means : (ticks : ℕ) (name : List ℕ) (p : wide.Prog) (accepted : Accepted) (left : Option (List ℕ)) (a : Answer) (v : Narrow Prog) (at : Place) → v ≡ Stuck at →
+    Follows (ForRun ticks name) p (built v accepted) left a → a ≡ refused_answer name (refused.Unbuilt at)
+unbuilt_means ticks name p accepted left a v at is follows = let f : Follows (ForRun ticks name) p (built (Stuck at) accepted) left a = subst (λ w. Follows (ForRun ticks name) p (built w accepted) left a) is follows in f.1
+
+pub unbuilt_fault : (accepted : Accepted) (v : Narrow Prog) (at : Place) → v ≡ Stuck at → HasFault (built v accepted)
+unbuilt_fault accepted v at is = subst (λ w. HasFault (built w accepted)) (sym is) (record { why = refused.Unbuilt at; judges = refl; is_verdict = tt })
 
 -- a text that is too long is no program
 pub too_long : (text : List ℕ) → 65536 < length text → IsReadAs text (Err refused.TooLong)

@@ -1,18 +1,22 @@
 -- What the top call claims: its status, and what became of the output and the notes, by the words, the texts and the input.
-use Rattle.std.specs.Prelude.{ℕ, ◌≡◌, ◌⊎◌, List, [], Option, Some, Ok, Err}
+use Rattle.std.specs.Prelude.{ℕ, ◌≡◌, ◌⊎◌, List, [], Option, Some, Result, Ok, Err}
 use Rattle.zir_tree.specs.declared.format.Format.TheVariants.{Binary}
 use Rattle.zir_tree.specs.declared.program.Prog.{Prog}
+use Rattle.zir_tree.specs.declared.program.Core.{Core}
 use Rattle.zir_tree.specs.declared.refusal.Refusal.{Refusal}
+use Rattle.zir_tree.specs.declared.refusal.Refusal.TheVariants.{Unbuilt}
 use Rattle.zir_meaning.specs.Answer.{Answer, answer_of}
 use Rattle.zir_bit_tree.specs.declared.tree.Prog as bits
-use Rattle.zir_bits.specs.Wide.{core_of}
-use Rattle.zir_narrow.specs.Judging.{judged}
+use Rattle.zir_accept.specs.declared.passes.Accepted.{Accepted}
+use Rattle.zir_accept.specs.Accepting.{judged}
+use Rattle.zir_narrow.specs.Narrow.{Narrow, Fine, Stuck, narrow}
 use Rattle.zir_outside.specs.Loads.{Texts, IsAbsent}
 use Rattle.zir_outside.specs.Sinks.{Grew}
-use Rattle.zir_words.specs.Words.{Asked, ForRun, ForShow, Ask, name_of}
+use Rattle.zir_words.specs.Words.{Asked, ForRun, ForCheck, ForShow, Ask, name_of}
 use Rattle.zir_read.specs.Reading.{IsReadAs, IsTold as IsVerdict}
 use Rattle.zir_print.specs.Text.{canonical_text}
 use Rattle.zir_notes.specs.Refusals.{refusal_note}
+use Rattle.zir_notes.specs.Reports.{report_text}
 
 -- the words name a text that the shelf, which tells its texts, has not
 abbrev pub LacksText : List (List ℕ) → Texts → Type 0
@@ -25,22 +29,25 @@ pub record Names (words : List (List ℕ)) (told : Texts) (asked : Asked) (text 
   pub tells : told ≡ Some texts
   pub has : texts (name_of asked) ≡ Some text
 
--- the text is a program that does not run today, and this is why
-pub record IsJudged (text : List ℕ) (why : Refusal) : Type 0 where
-  pub program : Prog
-  pub reads : IsReadAs text (Ok program)
-  pub judges : judged program ≡ Err why
+-- an accepted program runs today where it is one over bits, and else it is refused at the first form that nothing runs yet
+abbrev pub built : Narrow bits.Prog → Accepted → Result Accepted Refusal
+built (Fine narrowed) accepted = Ok accepted
+built (Stuck at) accepted = Err (Unbuilt at)
 
--- why the text is refused for what is asked: it is no program, or for a run one that does not run today
-abbrev pub IsRefusedFor : Asked → List ℕ → Refusal → Type 0
-IsRefusedFor (ForRun ticks name) text why = IsReadAs text (Err why) ⊎ IsJudged text why
-IsRefusedFor (ForShow name) text why = IsReadAs text (Err why)
+-- what comes of an accepted program for what is asked: it is run, checked or shown, or refused
+abbrev pub for_asked : Asked → Prog → Accepted → Result Accepted Refusal
+for_asked (ForRun ticks name) program accepted = built (narrow program accepted.core) accepted
+for_asked (ForCheck name) program accepted = Ok accepted
+for_asked (ForShow name) program accepted = Ok accepted
 
--- the text is refused for what is asked, and not for want of memory
-pub record IsRefused (asked : Asked) (text : List ℕ) : Type 0 where
-  pub why : Refusal
-  pub refuses : IsRefusedFor asked text why
-  pub is_verdict : IsVerdict (Err why)
+-- what comes of a program for what is asked, after names, types, sharing and limits
+abbrev pub after_judging : Asked → Prog → Result Accepted Refusal → Result Accepted Refusal
+after_judging asked program (Ok accepted) = for_asked asked program accepted
+after_judging asked program (Err why) = Err why
+
+-- the verdict on a program for what is asked
+abbrev pub verdict_on : Asked → Prog → Result Accepted Refusal
+verdict_on asked program = after_judging asked program (judged program)
 
 -- a text is refused: nothing is put out, and a note says why and where
 abbrev pub refused_answer : List ℕ → Refusal → Answer
@@ -50,35 +57,57 @@ refused_answer name why = record { status = 2; out = []; notes = refusal_note na
 abbrev pub text_answer : List ℕ → Answer
 text_answer text = record { status = 0; out = text; notes = [] }
 
--- the run of a program with so many ticks over all bytes that the input has left, in the binary format
-pub record IsRunOf (ticks : ℕ) (name : List ℕ) (program : Prog) (left : Option (List ℕ)) (a : Answer) : Type 0 where
-  pub narrowed : bits.Prog
-  pub runs : judged program ≡ Ok narrowed
+-- the run of a typed program with so many ticks over all bytes that the input has left, in the binary format
+pub record IsRunOf (ticks : ℕ) (name : List ℕ) (core : Core) (left : Option (List ℕ)) (a : Answer) : Type 0 where
   pub input : List ℕ
   pub has : left ≡ Some input
-  pub is : a ≡ answer_of Binary ticks (record { name = name; core = core_of program.at narrowed }) [] input
+  pub is : a ≡ answer_of Binary ticks (record { name = name; core = core }) [] input
 
--- the run of the program that a text is
-pub record IsTextRun (ticks : ℕ) (name text : List ℕ) (left : Option (List ℕ)) (a : Answer) : Type 0 where
+-- what is answered for an accepted program: its run, the report on it, or its canonical text
+abbrev pub IsDone : Asked → Prog → Accepted → Option (List ℕ) → Answer → Type 0
+IsDone (ForRun ticks name) program accepted left a = IsRunOf ticks name accepted.core left a
+IsDone (ForCheck name) program accepted left a = a ≡ text_answer (report_text accepted.core)
+IsDone (ForShow name) program accepted left a = a ≡ text_answer (canonical_text program)
+
+-- what is answered for a program, by the verdict on it
+abbrev pub Follows : Asked → Prog → Result Accepted Refusal → Option (List ℕ) → Answer → Type 0
+Follows asked program (Ok accepted) left a = IsDone asked program accepted left a
+Follows asked program (Err why) left a = IsVerdict (Err why) × (a ≡ refused_answer (name_of asked) why)
+
+-- the text is a program, and this is answered for it
+pub record IsRead (asked : Asked) (text : List ℕ) (left : Option (List ℕ)) (a : Answer) : Type 0 where
   pub program : Prog
   pub reads : IsReadAs text (Ok program)
-  pub runs : IsRunOf ticks name program left a
+  pub follows : Follows asked program (verdict_on asked program) left a
 
--- the canonical text of the program that a text is
-pub record IsShowOf (text : List ℕ) (a : Answer) : Type 0 where
-  pub program : Prog
-  pub reads : IsReadAs text (Ok program)
-  pub is : a ≡ text_answer (canonical_text program)
-
--- the note on a text that is refused
-pub record IsRefusalOf (asked : Asked) (text : List ℕ) (a : Answer) : Type 0 where
-  pub refused : IsRefused asked text
-  pub is : a ≡ refused_answer (name_of asked) refused.why
+-- the text is no program, and this is answered to it
+pub record IsUnread (name text : List ℕ) (a : Answer) : Type 0 where
+  pub why : Refusal
+  pub reads : IsReadAs text (Err why)
+  pub is_verdict : IsVerdict (Err why)
+  pub is : a ≡ refused_answer name why
 
 -- the definition answers so to what is asked of a text
 abbrev pub MeansOf : Asked → List ℕ → Option (List ℕ) → Answer → Type 0
-MeansOf (ForRun ticks name) text left a = IsTextRun ticks name text left a ⊎ IsRefusalOf (ForRun ticks name) text a
-MeansOf (ForShow name) text left a = IsShowOf text a ⊎ IsRefusalOf (ForShow name) text a
+MeansOf asked text left a = IsRead asked text left a ⊎ IsUnread (name_of asked) text a
+
+-- the text is a program that is refused for what is asked
+pub record IsJudged (asked : Asked) (text : List ℕ) (why : Refusal) : Type 0 where
+  pub program : Prog
+  pub reads : IsReadAs text (Ok program)
+  pub judges : verdict_on asked program ≡ Err why
+
+-- the text is refused for what is asked, and not for want of memory: it is no program, or one that is refused
+pub record IsRefused (asked : Asked) (text : List ℕ) : Type 0 where
+  pub why : Refusal
+  pub refuses : IsReadAs text (Err why) ⊎ IsJudged asked text why
+  pub is_verdict : IsVerdict (Err why)
+
+-- the words ask for no run
+abbrev pub AsksNoRun : Asked → Type 0
+AsksNoRun (ForRun ticks name) = ⊥
+AsksNoRun (ForCheck name) = Unit {0}
+AsksNoRun (ForShow name) = Unit {0}
 
 -- the definition answers so to the words, where the shelf tells its texts
 pub record Means (words : List (List ℕ)) (told : Texts) (left : Option (List ℕ)) (a : Answer) : Type 0 where

@@ -1,5 +1,5 @@
-//! The whole of a run: the words, the text that they name, and its program over the input and the output, or its canonical
-//! text.
+//! The whole of a run: the words, the text that they name, and its program over the input and the output, the report on it, or
+//! its canonical text.
 #![tactic(auto)]
 
 ghost use Rattle.std.specs.Prelude.{ℕ, List, Option, ◌≡◌, ◌≤◌, ◌^◌, ◌⊎◌, ◌↔◌, map, string_bytes};
@@ -7,9 +7,9 @@ ghost use Rattle.zir_meaning.specs.Answer.{Answer};
 ghost use Rattle.zir_outside.specs.Causes.{Rose};
 ghost use Rattle.zir_outside.specs.Loads.{IsAbsent};
 ghost use Rattle.zir_outside.specs.Sinks.{Grew, GrewPart};
-ghost use Rattle.zir_words.specs.Words.{AreBad, Asked, ForRun, ForShow};
-ghost use Rattle.zir_run.specs.Claim.{LacksText, Names, IsRefused, Means, MeansOf, EndsAs, IsTold, IsSettled, IsEnded, IsBroken, IsUnrun, IsQuiet, IsQuietRun};
-ghost use Rattle.zir_run.specs.Keeping.{Keeps};
+ghost use Rattle.zir_words.specs.Words.{AreBad, Asked, asked_of, name_of};
+ghost use Rattle.zir_run.specs.Claim.{LacksText, Names, AsksNoRun, IsRefused, Means, MeansOf, EndsAs, IsTold, IsSettled, IsEnded, IsBroken, IsUnrun, IsQuiet, IsQuietRun};
+ghost use Rattle.zir_run.specs.Keeping.{HasBudget, Keeps};
 ghost use Rattle.zir_run.specs.Loading.{Has};
 
 mod load;
@@ -17,7 +17,7 @@ mod perform;
 mod run;
 
 use load::{Unloaded, load};
-use perform::{refuse, run_text, show_text};
+use perform::{perform_text, refuse};
 use std::alloc::Global;
 use zir_outside::{Gate, Shelf, Sink, Source};
 use zir_read::one_verdict;
@@ -33,8 +33,8 @@ const NO_MEMORY: u8 = 9;
 
 /// Does all that the program does. On the words `run --ticks N NAME` it loads the text NAME from the shelf, runs its program over
 /// the bits of `input` with N ticks, writes the bits of its output to `out`, and puts a note on how the run ended to
-/// `notes`. On the words `show NAME` it writes the canonical text of the program to `out`. A text that is refused is noted with
-/// the place and the reason. It answers the status.
+/// `notes`. On the words `check NAME` it writes to `out` what the program reads, writes and is, and on `show NAME` its canonical
+/// text. A text that is refused is noted with the place and the reason. It answers the status.
 pub fn ziria<H: Shelf, S: Source + Send, K: Sink + Send, N: Sink, G: Gate + Sync>(
     alloc: Global,
     words: &[String],
@@ -83,8 +83,9 @@ pub fn ziria<H: Shelf, S: Source + Send, K: Sink + Send, N: Sink, G: Gate + Sync
     // At 1, 2 and 3 nothing was read from the input or put on the output, and but for 0, 2, 5 and 8 no note was put.
     ensures untouched { IsUnrun result → (input.new ≡ input.old) × (out.new ≡ out.old) }
     ensures quiet { IsQuiet result → notes.new ≡ notes.old }
-    // To show a program nothing is read from the input.
-    ensures unread { (name text : List ℕ) → Names (map string_bytes words.now) (H.texts shelf.old) (ForShow name) text
+    // To check and to show a program nothing is read from the input.
+    ensures unread { (asked : Asked) (text : List ℕ) → AsksNoRun asked
+        → Names (map string_bytes words.now) (H.texts shelf.old) asked text
         → input.new ≡ input.old }
     // The texts stay.
     ensures texts { H.texts shelf.new ≡ H.texts shelf.old }
@@ -92,31 +93,27 @@ pub fn ziria<H: Shelf, S: Source + Send, K: Sink + Send, N: Sink, G: Gate + Sync
     ask_once();
     match read_words(words) {
         None => BAD_WORDS,
-        Some(Job::Run(asked)) => {
-            run_named(alloc, asked.name, asked.ticks, shelf, input, out, notes)
-        },
-        Some(Job::Show(name)) => show_named(alloc, name, shelf, out, notes),
+        Some(job) => perform_named(alloc, job, shelf, input, out, notes),
     }
 }
 
-/// Runs the program of a name, and answers the status.
-fn run_named<H: Shelf, S: Source, K: Sink, N: Sink>(
+/// Does what is asked of the text of a name, and answers the status.
+fn perform_named<H: Shelf, S: Source, K: Sink, N: Sink>(
     alloc: Global,
-    name: &str,
-    ticks: u64,
+    job: Job<'_>,
     shelf: &mut H,
     input: &mut S,
     out: &mut K,
     notes: &mut N,
 ) -> u8
-    requires { ticks ≤ 2 ^ 48 }
+    requires { HasBudget (asked_of job) }
     ensures not_loaded { result ≡ 3
-        → Rose (H.faults shelf.old) (H.faults shelf.new) ⊎ IsAbsent (H.texts shelf.old) name.now }
-    ensures absent { IsAbsent (H.texts shelf.old) name.now → result ≡ 3 }
-    ensures refused { (text : List ℕ) → result ≡ 2 → Has (H.texts shelf.old) name.now text
-        → IsRefused (ForRun ticks name.now) text }
-    ensures keeps { (text : List ℕ) (a : Answer) → Has (H.texts shelf.old) name.now text
-        → MeansOf (ForRun ticks name.now) text (S.left input.old) a
+        → Rose (H.faults shelf.old) (H.faults shelf.new) ⊎ IsAbsent (H.texts shelf.old) (name_of (asked_of job)) }
+    ensures absent { IsAbsent (H.texts shelf.old) (name_of (asked_of job)) → result ≡ 3 }
+    ensures refused { (text : List ℕ) → result ≡ 2 → Has (H.texts shelf.old) (name_of (asked_of job)) text
+        → IsRefused (asked_of job) text }
+    ensures keeps { (text : List ℕ) (a : Answer) → Has (H.texts shelf.old) (name_of (asked_of job)) text
+        → MeansOf (asked_of job) text (S.left input.old) a
         → Keeps result a
         (K.stands_for out.old) (K.stands_for out.new) (K.faults out.old) (K.faults out.new)
         (N.stands_for notes.old) (N.stands_for notes.new) }
@@ -126,46 +123,13 @@ fn run_named<H: Shelf, S: Source, K: Sink, N: Sink>(
         → Rose (K.faults out.old) (K.faults out.new) ⊎ Rose (N.faults notes.old) (N.faults notes.new) }
     ensures untouched { (result ≡ 2) ⊎ (result ≡ 3) → (input.new ≡ input.old) × (out.new ≡ out.old) }
     ensures quiet { (result ≡ 3) ⊎ IsQuietRun result → notes.new ≡ notes.old }
+    ensures unread { AsksNoRun (asked_of job) → input.new ≡ input.old }
     ensures texts { H.texts shelf.new ≡ H.texts shelf.old }
 {
     one_verdict();
-    match load(alloc, name, shelf) {
-        Ok(text) => run_text(alloc, name, ticks, text.as_slice(), input, out, notes),
-        Err(Unloaded::TooLong) => refuse(name, &Refusal::TooLong, notes),
-        Err(Unloaded::NotLoaded) => NOT_LOADED,
-        Err(Unloaded::Memory) => NO_MEMORY,
-    }
-}
-
-/// Shows the program of a name, and answers the status.
-fn show_named<H: Shelf, K: Sink, N: Sink>(
-    alloc: Global,
-    name: &str,
-    shelf: &mut H,
-    out: &mut K,
-    notes: &mut N,
-) -> u8
-    ensures not_loaded { result ≡ 3
-        → Rose (H.faults shelf.old) (H.faults shelf.new) ⊎ IsAbsent (H.texts shelf.old) name.now }
-    ensures absent { IsAbsent (H.texts shelf.old) name.now → result ≡ 3 }
-    ensures refused { (text : List ℕ) → result ≡ 2 → Has (H.texts shelf.old) name.now text
-        → IsRefused (ForShow name.now) text }
-    ensures keeps { (text : List ℕ) (left : Option (List ℕ)) (a : Answer) → Has (H.texts shelf.old) name.now text
-        → MeansOf (ForShow name.now) text left a
-        → Keeps result a
-        (K.stands_for out.old) (K.stands_for out.new) (K.faults out.old) (K.faults out.new)
-        (N.stands_for notes.old) (N.stands_for notes.new) }
-    ensures status { (result ≡ 3) ⊎ (result ≡ 0) ⊎ (result ≡ 2) ⊎ (result ≡ 8) ⊎ (result ≡ 9) }
-    ensures write_fault { result ≡ 8
-        → Rose (K.faults out.old) (K.faults out.new) ⊎ Rose (N.faults notes.old) (N.faults notes.new) }
-    ensures untouched { (result ≡ 2) ⊎ (result ≡ 3) → out.new ≡ out.old }
-    ensures quiet { (result ≡ 3) ⊎ (result ≡ 9) → notes.new ≡ notes.old }
-    ensures texts { H.texts shelf.new ≡ H.texts shelf.old }
-{
-    one_verdict();
-    match load(alloc, name, shelf) {
-        Ok(text) => show_text(alloc, name, text.as_slice(), out, notes),
-        Err(Unloaded::TooLong) => refuse(name, &Refusal::TooLong, notes),
+    match load(alloc, job.name(), shelf) {
+        Ok(text) => perform_text(alloc, job, text.as_slice(), input, out, notes),
+        Err(Unloaded::TooLong) => refuse(job.name(), &Refusal::TooLong, notes),
         Err(Unloaded::NotLoaded) => NOT_LOADED,
         Err(Unloaded::Memory) => NO_MEMORY,
     }

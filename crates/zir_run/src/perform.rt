@@ -1,26 +1,31 @@
-// What is done with a text: its program is run or shown, and a refused text is noted.
+// What is done with a text: its program is run, checked or shown, and a refused text is noted.
 
 ghost use Rattle.std.specs.Prelude.{ℕ, List, ◌≡◌, ◌≤◌, ◌^◌, ◌⊎◌, Option, Err};
 ghost use Rattle.zir_meaning.specs.Answer.{Answer};
+ghost use Rattle.zir_narrow.specs.Narrow.{narrow};
 ghost use Rattle.zir_outside.specs.Causes.{Rose};
 ghost use Rattle.zir_outside.specs.Sinks.{Grew, GrewPart};
 ghost use Rattle.zir_print.specs.Text.{canonical_text};
 ghost use Rattle.zir_read.specs.Reading.{IsTold as IsVerdict};
-ghost use Rattle.zir_run.specs.Claim.{IsBroken, IsQuietRun, IsRefused, IsSettled, MeansOf};
-ghost use Rattle.zir_run.specs.Keeping.{HasFault, Keeps, RunMeans};
-ghost use Rattle.zir_words.specs.Words.{ForRun, ForShow};
+ghost use Rattle.zir_run.specs.Claim.{AsksNoRun, Follows, IsBroken, IsQuietRun, IsRefused, IsSettled, MeansOf, built, for_asked, verdict_on};
+ghost use Rattle.zir_run.specs.Keeping.{HasBudget, HasFault, Keeps};
+ghost use Rattle.zir_words.specs.Words.{ForRun, asked_of};
 ghost use Rattle.zir_notes.specs.Refusals.{refusal_note};
+ghost use Rattle.zir_notes.specs.Reports.{report_text};
 
 use crate::run::run;
 use std::alloc::{AllocError, Global};
+use zir_accept::{Accepted, judge};
 use zir_bits::same_answers;
-use zir_narrow::judge;
+use zir_narrow::{NarrowError, narrow_is_over, narrow_program};
+use zir_notes::reports::report;
 use zir_notes::{put_in_pieces, write_refusal};
 use zir_outside::{Failed, Sink, Source};
 use zir_read::{one_verdict, read_program};
 use zir_show::canonical::print;
-use zir_tree::program::Prog;
+use zir_tree::program::{Core, Prog};
 use zir_tree::refusal::Refusal;
+use zir_words::{Job, RunWords};
 
 /// The status of a text that was put out.
 const DONE: u8 = 0;
@@ -31,89 +36,126 @@ const WRITE_FAULT: u8 = 8;
 /// The status of want of memory.
 const NO_MEMORY: u8 = 9;
 
-/// Runs the program that a text is, or notes why it is refused, and answers the status.
-pub fn run_text<S: Source, K: Sink, N: Sink>(
+/// Does what is asked of a text, or notes why it is refused, and answers the status.
+pub fn perform_text<S: Source, K: Sink, N: Sink>(
     alloc: Global,
-    name: &str,
-    ticks: u64,
+    job: Job<'_>,
     text: &[u8],
     input: &mut S,
     out: &mut K,
     notes: &mut N,
 ) -> u8
-    requires { ticks ≤ 2 ^ 48 }
-    ensures keeps { (a : Answer) → MeansOf (ForRun ticks name.now) text.now (S.left input.old) a
+    requires { HasBudget (asked_of job) }
+    ensures keeps { (a : Answer) → MeansOf (asked_of job) text.now (S.left input.old) a
         → Keeps result a
         (K.stands_for out.old) (K.stands_for out.new) (K.faults out.old) (K.faults out.new)
         (N.stands_for notes.old) (N.stands_for notes.new) }
-    ensures refused { result ≡ 2 → IsRefused (ForRun ticks name.now) text.now }
+    ensures refused { result ≡ 2 → IsRefused (asked_of job) text.now }
     ensures statuses { IsSettled result ⊎ IsBroken result }
     ensures read_fault { result ≡ 7 → Rose (S.faults input.old) (S.faults input.new) }
     ensures write_fault { result ≡ 8
         → Rose (K.faults out.old) (K.faults out.new) ⊎ Rose (N.faults notes.old) (N.faults notes.new) }
     ensures untouched { result ≡ 2 → (input.new ≡ input.old) × (out.new ≡ out.old) }
     ensures quiet { IsQuietRun result → notes.new ≡ notes.old }
+    ensures unread { AsksNoRun (asked_of job) → input.new ≡ input.old }
 {
     one_verdict();
     match read_program(alloc, text) {
-        Ok(program) => run_program(alloc, name, ticks, program, input, out, notes),
-        Err(why) => note(name, &why, notes),
+        Ok(program) => perform(alloc, job, &program, input, out, notes),
+        Err(why) => note(job.name(), &why, notes),
     }
 }
 
-/// Runs a program, or notes why it does not run today, and answers the status.
-fn run_program<S: Source, K: Sink, N: Sink>(
+/// Does what is asked of a program, or notes why it is refused, and answers the status.
+fn perform<S: Source, K: Sink, N: Sink>(
     alloc: Global,
-    name: &str,
-    ticks: u64,
-    program: Prog,
+    job: Job<'_>,
+    program: &Prog,
     input: &mut S,
     out: &mut K,
     notes: &mut N,
 ) -> u8
-    requires { ticks ≤ 2 ^ 48 }
-    ensures keeps { (a : Answer) → RunMeans ticks name.now program (S.left input.old) a
+    requires { HasBudget (asked_of job) }
+    ensures keeps { (a : Answer) → Follows (asked_of job) program.now (verdict_on (asked_of job) program.now) (S.left input.old) a
         → Keeps result a
         (K.stands_for out.old) (K.stands_for out.new) (K.faults out.old) (K.faults out.new)
         (N.stands_for notes.old) (N.stands_for notes.new) }
-    ensures refused { result ≡ 2 → HasFault program }
+    ensures refused { result ≡ 2 → HasFault (verdict_on (asked_of job) program.now) }
     ensures statuses { IsSettled result ⊎ IsBroken result }
     ensures read_fault { result ≡ 7 → Rose (S.faults input.old) (S.faults input.new) }
     ensures write_fault { result ≡ 8
         → Rose (K.faults out.old) (K.faults out.new) ⊎ Rose (N.faults notes.old) (N.faults notes.new) }
     ensures untouched { result ≡ 2 → (input.new ≡ input.old) × (out.new ≡ out.old) }
     ensures quiet { IsQuietRun result → notes.new ≡ notes.old }
+    ensures unread { AsksNoRun (asked_of job) → input.new ≡ input.old }
 {
-    same_answers();
     match judge(alloc, program) {
-        Ok(narrowed) => run(alloc, &narrowed, ticks, input, out, notes),
-        Err(why) => note(name, &why, notes),
+        Ok(accepted) => perform_accepted(alloc, job, program, &accepted, input, out, notes),
+        Err(why) => note(job.name(), &why, notes),
     }
 }
 
-/// Puts out the canonical text of the program that a text is, or notes why it is none, and answers the status.
-pub fn show_text<K: Sink, N: Sink>(
+/// Does what is asked of an accepted program, and answers the status.
+fn perform_accepted<S: Source, K: Sink, N: Sink>(
     alloc: Global,
-    name: &str,
-    text: &[u8],
+    job: Job<'_>,
+    program: &Prog,
+    accepted: &Accepted,
+    input: &mut S,
     out: &mut K,
     notes: &mut N,
 ) -> u8
-    ensures keeps { (left : Option (List ℕ)) (a : Answer) → MeansOf (ForShow name.now) text.now left a
+    requires { HasBudget (asked_of job) }
+    ensures keeps { (a : Answer) → Follows (asked_of job) program.now (for_asked (asked_of job) program.now accepted.now) (S.left input.old) a
         → Keeps result a
         (K.stands_for out.old) (K.stands_for out.new) (K.faults out.old) (K.faults out.new)
         (N.stands_for notes.old) (N.stands_for notes.new) }
-    ensures refused { result ≡ 2 → IsRefused (ForShow name.now) text.now }
-    ensures statuses { (result ≡ 0) ⊎ (result ≡ 2) ⊎ (result ≡ 8) ⊎ (result ≡ 9) }
+    ensures refused { result ≡ 2 → HasFault (for_asked (asked_of job) program.now accepted.now) }
+    ensures statuses { IsSettled result ⊎ IsBroken result }
+    ensures read_fault { result ≡ 7 → Rose (S.faults input.old) (S.faults input.new) }
     ensures write_fault { result ≡ 8
         → Rose (K.faults out.old) (K.faults out.new) ⊎ Rose (N.faults notes.old) (N.faults notes.new) }
-    ensures untouched { result ≡ 2 → out.new ≡ out.old }
-    ensures quiet { result ≡ 9 → notes.new ≡ notes.old }
+    ensures untouched { result ≡ 2 → (input.new ≡ input.old) × (out.new ≡ out.old) }
+    ensures quiet { IsQuietRun result → notes.new ≡ notes.old }
+    ensures unread { AsksNoRun (asked_of job) → input.new ≡ input.old }
 {
-    one_verdict();
-    match read_program(alloc, text) {
-        Ok(program) => show(alloc, &program, out),
-        Err(why) => note(name, &why, notes),
+    match job {
+        Job::Run(words) => run_accepted(alloc, words, program, accepted, input, out, notes),
+        Job::Check(_) => check(alloc, &accepted.core, out),
+        Job::Show(_) => show(alloc, program, out),
+    }
+}
+
+/// Runs an accepted program, or notes the first form that nothing runs yet, and answers the status.
+fn run_accepted<S: Source, K: Sink, N: Sink>(
+    alloc: Global,
+    words: RunWords<'_>,
+    program: &Prog,
+    accepted: &Accepted,
+    input: &mut S,
+    out: &mut K,
+    notes: &mut N,
+) -> u8
+    requires { words.ticks ≤ 2 ^ 48 }
+    ensures keeps { (a : Answer) → Follows (ForRun words.ticks words.name.now) program.now
+        (built (narrow program.now accepted.now.core) accepted.now) (S.left input.old) a
+        → Keeps result a
+        (K.stands_for out.old) (K.stands_for out.new) (K.faults out.old) (K.faults out.new)
+        (N.stands_for notes.old) (N.stands_for notes.new) }
+    ensures refused { result ≡ 2 → HasFault (built (narrow program.now accepted.now.core) accepted.now) }
+    ensures statuses { IsSettled result ⊎ IsBroken result }
+    ensures read_fault { result ≡ 7 → Rose (S.faults input.old) (S.faults input.new) }
+    ensures write_fault { result ≡ 8
+        → Rose (K.faults out.old) (K.faults out.new) ⊎ Rose (N.faults notes.old) (N.faults notes.new) }
+    ensures untouched { result ≡ 2 → (input.new ≡ input.old) × (out.new ≡ out.old) }
+    ensures quiet { IsQuietRun result → notes.new ≡ notes.old }
+{
+    narrow_is_over();
+    same_answers();
+    match narrow_program(alloc, program, &accepted.core) {
+        Ok(narrowed) => run(alloc, &narrowed, words.ticks, input, out, notes),
+        Err(NarrowError::Unbuilt(at)) => refuse(words.name, &Refusal::Unbuilt(at), notes),
+        Err(NarrowError::Memory) => NO_MEMORY,
     }
 }
 
@@ -146,6 +188,20 @@ fn note<N: Sink>(name: &str, why: &Refusal, notes: &mut N) -> u8
     match why {
         Refusal::Memory => NO_MEMORY,
         other => refuse(name, other, notes),
+    }
+}
+
+/// Puts out the report on a program, and answers the status.
+fn check<K: Sink>(alloc: Global, core: &Core, out: &mut K) -> u8
+    ensures written { result ≡ 0 → Grew (K.stands_for out.old) (K.stands_for out.new) (report_text core.now) }
+    ensures failed { result ≡ 8 → GrewPart (report_text core.now) (K.stands_for out.old) (K.stands_for out.new) }
+    ensures fault { result ≡ 8 → Rose (K.faults out.old) (K.faults out.new) }
+    ensures untouched { result ≡ 9 → out.new ≡ out.old }
+    ensures status { (result ≡ 0) ⊎ (result ≡ 8) ⊎ (result ≡ 9) }
+{
+    match report(alloc, core) {
+        Ok(text) => write(&text, out),
+        Err(AllocError) => NO_MEMORY,
     }
 }
 

@@ -5,7 +5,7 @@ use Rattle.std.specs.Result.{result_ok}
 use Rattle.std.specs.Str.Parse.{AllDigits, digits_value, ParsesUnsigned}
 use Rattle.std.proofs.lemmas.Str.Parse.{IsNumeralModel, numerals_by_value, tells_digits, parse_plain}
 use Rattle.std.proofs.lemmas.Fmt.{decimal-digits_value, decimal_digit, decimal_injective, decimal_nonempty, first_decimal, parse-decimal}
-use Rattle.zir_words.specs.Words.{AskOnce, ForRun, ForShow, IsBudget, IsRun}
+use Rattle.zir_words.specs.Words.{AskOnce, ForRun, ForCheck, ForShow, IsBudget, IsRun}
 
 -- std's digits and their value
 own : IsNumeralModel (AllDigits 10) (digits_value 10)
@@ -47,6 +47,11 @@ same_run words m n name other a b =
 -- words ask for one thing at most
 pub asked_once : AskOnce
 asked_once words (ForRun m name) (ForRun n other) a b = let same = same_run words m n name other a b in λ i. ForRun (same.0 i) (same.1 i)
+asked_once words (ForRun m name) (ForCheck other) a b = absurd (cc (a.form, b.form))
 asked_once words (ForRun m name) (ForShow other) a b = absurd (cc (a.form, b.form))
+asked_once words (ForCheck name) (ForRun n other) a b = absurd (cc (a.form, b.form))
+asked_once words (ForCheck name) (ForCheck other) a b = let same : name ≡ other = cc (a.form, b.form) in ap ForCheck same
+asked_once words (ForCheck name) (ForShow other) a b = absurd (cc (a.form, b.form))
 asked_once words (ForShow name) (ForRun n other) a b = absurd (cc (a.form, b.form))
+asked_once words (ForShow name) (ForCheck other) a b = absurd (cc (a.form, b.form))
 asked_once words (ForShow name) (ForShow other) a b = let same : name ≡ other = cc (a.form, b.form) in ap ForShow same

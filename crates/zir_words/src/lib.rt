@@ -21,6 +21,8 @@ pub struct RunWords<'a> {
 pub enum Job<'a> {
     /// The run of a program.
     Run(RunWords<'a>),
+    /// `check NAME`: what the program in the text of this name reads, writes and is.
+    Check(&'a str),
     /// `show NAME`: the canonical text of the program in the text of this name.
     Show(&'a str),
 }
@@ -32,19 +34,19 @@ impl<'a> Job<'a> {
     {
         match self {
             Job::Run(run) => run.name,
-            Job::Show(name) => name,
+            Job::Check(name) | Job::Show(name) => name,
         }
     }
 }
 
-/// Reads the words of a command line, and answers None where they are of no form: `run --ticks N NAME` and
+/// Reads the words of a command line, and answers None where they are of no form: `run --ticks N NAME`, `check NAME` and
 /// `show NAME`.
 pub fn read_words(words: &[String]) -> Option<Job<'_>>
     ensures some { IfSome result (λ job. Ask (map string_bytes words.now) (asked_of job)) }
     ensures none { IfNone result (AreBad (map string_bytes words.now)) }
 {
     match words {
-        [command, name] => read_show(command.as_str(), name.as_str()),
+        [command, name] => read_named(command.as_str(), name.as_str()),
         [command, option, number, name] => {
             let run = read_run(
                 command.as_str(),
@@ -58,15 +60,21 @@ pub fn read_words(words: &[String]) -> Option<Job<'_>>
     }
 }
 
-/// Reads the words `show NAME`.
-fn read_show<'a>(command: &'a str, name: &'a str) -> Option<Job<'a>>
+/// Reads the words `check NAME` and `show NAME`.
+fn read_named<'a>(command: &'a str, name: &'a str) -> Option<Job<'a>>
     ensures some { IfSome result (λ job. Ask (command.now ∷ name.now ∷ []) (asked_of job)) }
     ensures none { IfNone result (AreBad (command.now ∷ name.now ∷ [])) }
 {
-    if command != "show" || !is_program_name(name) {
+    if !is_program_name(name) {
         return None;
     }
-    Some(Job::Show(name))
+    if command == "check" {
+        return Some(Job::Check(name));
+    }
+    if command == "show" {
+        return Some(Job::Show(name));
+    }
+    None
 }
 
 /// Reads the words `run --ticks N NAME`.
@@ -141,6 +149,7 @@ mod tests {
                 })),
             ),
             ("run --ticks 1", None),
+            ("check p", Some(Job::Check("p"))),
             ("show p", Some(Job::Show("p"))),
         ];
         for (line, want) in cases {

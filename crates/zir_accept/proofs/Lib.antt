@@ -1,0 +1,4 @@
+pub mod Told
+pub mod Verdicts
+pub mod FirstNames
+pub mod Kept

@@ -1,0 +1,4 @@
+pub mod Variables
+pub mod Accepting
+pub mod Finding
+pub mod Soundness

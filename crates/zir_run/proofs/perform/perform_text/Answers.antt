@@ -1,0 +1,20 @@
+use Rattle.std.proofs.Common.{inl, inr}
+use Rattle.zir_words.specs.Words.{asked_of, name_of}
+use Rattle.zir_run.proofs.Keep.{note_status}
+use Rattle.zir_run.proofs.Verdicts.{text_means, text_fault, text_note, told_two, refusal_noted}
+use Rattle.zir_run.proofs.perform.perform_text.Goals as goal
+
+pub returns-in-Ok-clause-keeps : goal.returns-in-Ok-clause-keeps
+returns-in-Ok-clause-keeps g c a m =
+    c.perform.ensures.keeps a (text_means c.one_verdict.ensures (asked_of c.args.job) c.args.text.now (g.S.Source.left c.args.input.now) a c.in-Ok.program c.in-Ok.ensures m)
+
+pub returns-in-Ok-clause-refused : goal.returns-in-Ok-clause-refused
+returns-in-Ok-clause-refused g c two =
+    text_fault (asked_of c.args.job) c.args.text.now c.in-Ok.program c.in-Ok.ensures (c.perform.ensures.refused two)
+
+pub returns-in-Err-clause-refused : goal.returns-in-Err-clause-refused
+returns-in-Err-clause-refused g c two =
+    record { why = c.in-Err.why; refuses = inl c.in-Err.ensures; is_verdict = told_two c.note.result c.in-Err.why c.note.ensures.verdict (inl two) }
+
+pub returns-in-Err-clause-statuses : goal.returns-in-Err-clause-statuses
+returns-in-Err-clause-statuses g c = note_status c.note.result c.note.ensures.status

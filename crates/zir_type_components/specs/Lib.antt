@@ -1,0 +1,6 @@
+pub mod Answers
+pub mod Parts
+pub mod Numbers
+pub mod Calls
+pub mod Blocks
+pub mod Sizes

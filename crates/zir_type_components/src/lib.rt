@@ -1,0 +1,7 @@
+//! The walk that gives components their types, with the instances of `fun comp`s that they reach, or the first refusal.
+#![tactic(auto)]
+
+pub mod component;
+pub mod comps;
+pub mod instances;
+pub mod rules;
