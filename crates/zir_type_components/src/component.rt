@@ -357,6 +357,7 @@ fn type_call(
     if is_full(site.around, instances.as_slice()) {
         return Err(TypeError::Instances(f.at));
     }
+    site.comps.check_room(found.comp, instances.as_slice())?;
     let r = type_body(alloc, scope, site, input, found, instances)?;
     kept(alloc, f, made, found.comp, input, r, instances)
 }

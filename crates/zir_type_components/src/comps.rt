@@ -4,8 +4,11 @@ ghost use Rattle.std.specs.Prelude.{◌≡◌, drop, reverse, option_map, true, 
 ghost use Rattle.zir_type_components.specs.Numbers.{found, falling as falls, head_below as below_here};
 ghost use Rattle.zir_type_components.specs.Calls.{split_in};
 
+use crate::memory::{bytes_of_comp, check_room};
+use std::alloc::AllocError;
 use std::marker::Model;
 use zir_tree::comp::Comp;
+use zir_tree::program::Instance;
 use zir_types::typed::Heading;
 
 /// A `fun comp` with its parameters, whose body is typed where it is called.
@@ -14,6 +17,8 @@ pub struct PreparedComp<'a> {
     id: u32,
     head: Heading,
     body: &'a Comp,
+    /// About how many bytes the body takes.
+    bytes: u64,
 }
 
 impl<'a> Model for PreparedComp<'a> {
@@ -34,7 +39,13 @@ impl<'a> PreparedComp<'a> {
     pub fn new(id: u32, head: Heading, body: &'a Comp) -> PreparedComp<'a>
         ensures { result ≡ record { id = id; head = head; body = body.now } }
     {
-        PreparedComp { id, head, body }
+        let bytes = bytes_of_comp(body);
+        PreparedComp {
+            id,
+            head,
+            body,
+            bytes,
+        }
     }
 
     /// The number of its declaration.
@@ -121,6 +132,17 @@ impl<'a> Comps<'a> {
             }
         }
         find_from(self.list.as_slice(), from, id)
+    }
+
+    /// Refuses memory for a body beside those of the instances, where all of them take too much.
+    pub fn check_room(&self, comp: &PreparedComp<'_>, instances: &[Instance]) -> Result<(), AllocError> {
+        let mut bytes = comp.bytes;
+        for instance in instances {
+            if let Some(typed) = self.find(0, instance.declaration) {
+                bytes = bytes.saturating_add(typed.comp.bytes);
+            }
+        }
+        check_room(bytes)
     }
 }
 

@@ -4,4 +4,5 @@
 pub mod component;
 pub mod comps;
 pub mod instances;
+mod memory;
 pub mod rules;
