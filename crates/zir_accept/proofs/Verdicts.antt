@@ -36,5 +36,5 @@ one reading text a b told_a told_b (unread h) (read k) =
     absurd (not_both k.program h.why (sym (reading text (Err h.why) (Ok k.program) (read_told h.why (subst IsTold h.is told_a)) tt h.refuses k.reads)))
 one reading text a b told_a told_b (unread h) (unread k) =
     let same : h.why ≡ k.why =
-      cc (reading text (Err h.why) (Err k.why) (read_told h.why (subst IsTold h.is told_a)) (read_told k.why (subst IsTold k.is told_b)) h.refuses k.refuses) in
+    cc (reading text (Err h.why) (Err k.why) (read_told h.why (subst IsTold h.is told_a)) (read_told k.why (subst IsTold k.is told_b)) h.refuses k.refuses) in
     h.is ∙ ap Err same ∙ sym k.is

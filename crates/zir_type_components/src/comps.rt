@@ -135,7 +135,11 @@ impl<'a> Comps<'a> {
     }
 
     /// Refuses memory for a body beside those of the instances, where all of them take too much.
-    pub fn check_room(&self, comp: &PreparedComp<'_>, instances: &[Instance]) -> Result<(), AllocError> {
+    pub fn check_room(
+        &self,
+        comp: &PreparedComp<'_>,
+        instances: &[Instance],
+    ) -> Result<(), AllocError> {
         let mut bytes = comp.bytes;
         for instance in instances {
             if let Some(typed) = self.find(0, instance.declaration) {

@@ -33,7 +33,9 @@ fn bytes_of_expr(e: &Expr) -> u64 {
         Expr::Int(_, _, _) => 0,
         Expr::Variable(_) => 0,
         Expr::Unary(_, _, a, _) => bytes_of_expr(a.get()),
-        Expr::Binary(_, _, a, b, _) => bytes_of_expr(a.get()).saturating_add(bytes_of_expr(b.get())),
+        Expr::Binary(_, _, a, b, _) => bytes_of_expr(a.get()).saturating_add(bytes_of_expr(
+            b.get(),
+        )),
         Expr::Index(a, i, _) => bytes_of_expr(a.get()).saturating_add(bytes_of_expr(i.get())),
         Expr::Slice(a, i, _, _) => bytes_of_expr(a.get()).saturating_add(bytes_of_expr(i.get())),
         Expr::Part(a, _, _, _) => bytes_of_expr(a.get()),

@@ -45,4 +45,3 @@ returns-in-Some-clause-refused g c other text two names =
     let asks : Ask (map string_bytes c.args.words.now) (asked_of c.in-Some.job) = c.in-Some.ensures.some in
     refused_as c.ask_once.ensures (map string_bytes c.args.words.now) (g.H.Shelf.texts c.args.shelf.now) (asked_of c.in-Some.job) other text asks names
     (c.perform_named.ensures.refused text two (has_text c.ask_once.ensures (map string_bytes c.args.words.now) (g.H.Shelf.texts c.args.shelf.now) (asked_of c.in-Some.job) other text asks names))
-

@@ -47,10 +47,10 @@ pub find_in_block-returns-in-Some : goal.find_in_block-returns-in-Some
 find_in_block-returns-in-Some t c =
     sym (c.loop-m.invariant ∙ name_items c.args.x of_member c.args.ms.now c.loop-m.m-index c.m-item.result (omega arith) c.m-item.is
     ∙ name_first (first_name c.args.x (of_member c.m-item.result))
-      (first_name c.args.x (flat_map of_member (drop (c.loop-m.m-index + 1) c.args.ms.now))) c.in-Some.name.now (sym c.in-Some.ensures))
+    (first_name c.args.x (flat_map of_member (drop (c.loop-m.m-index + 1) c.args.ms.now))) c.in-Some.name.now (sym c.in-Some.ensures))
 
 pub find_in_block-loop-m-preserved : goal.find_in_block-loop-m-preserved
 find_in_block-loop-m-preserved t c =
     c.loop-m.invariant ∙ name_items c.args.x of_member c.args.ms.now c.loop-m.m-index c.m-item.result (omega arith) c.m-item.is
     ∙ name_next (first_name c.args.x (of_member c.m-item.result))
-      (first_name c.args.x (flat_map of_member (drop (c.loop-m.m-index + 1) c.args.ms.now))) (sym c.in_default.ensures)
+    (first_name c.args.x (flat_map of_member (drop (c.loop-m.m-index + 1) c.args.ms.now))) (sym c.in_default.ensures)
