@@ -4,7 +4,7 @@ ghost use Rattle.std.specs.Prelude.{◌≡◌, drop, reverse, option_map, true, 
 ghost use Rattle.zir_type_components.specs.Numbers.{found, falling as falls, head_below as below_here};
 ghost use Rattle.zir_type_components.specs.Calls.{split_in};
 
-use crate::memory::{bytes_of_comp, check_room};
+use crate::memory::{bytes_of_comp, has_room};
 use std::alloc::AllocError;
 use std::marker::Model;
 use zir_tree::comp::Comp;
@@ -67,6 +67,11 @@ impl<'a> PreparedComp<'a> {
         ensures { result.now ≡ self.now.body }
     {
         self.body
+    }
+
+    /// About how many bytes its body takes.
+    fn bytes(&self) -> u64 {
+        self.bytes
     }
 }
 
@@ -134,19 +139,29 @@ impl<'a> Comps<'a> {
         find_from(self.list.as_slice(), from, id)
     }
 
-    /// Refuses memory for a body beside those of the instances, where all of them take too much.
+    /// About how many bytes the body of an instance takes.
+    fn bytes_of(&self, instance: &Instance) -> u64 {
+        match self.find(0, instance.declaration) {
+            Some(typed) => typed.comp.bytes(),
+            None => 0,
+        }
+    }
+
+    /// Refuses memory for a body beside those of these instances, where all of them take too much.
     pub fn check_room(
         &self,
         comp: &PreparedComp<'_>,
         instances: &[Instance],
     ) -> Result<(), AllocError> {
-        let mut bytes = comp.bytes;
+        let mut bytes = comp.bytes();
         for instance in instances {
-            if let Some(typed) = self.find(0, instance.declaration) {
-                bytes = bytes.saturating_add(typed.comp.bytes);
-            }
+            bytes = bytes.saturating_add(self.bytes_of(instance));
         }
-        check_room(bytes)
+        if has_room(bytes) {
+            Ok(())
+        } else {
+            Err(AllocError)
+        }
     }
 }
 

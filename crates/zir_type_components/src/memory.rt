@@ -1,7 +1,6 @@
 // About how much memory trees take. The body of a `fun comp` is typed once for each of its instances, so that a short text can ask for
 // hundreds of copies of a long body.
 
-use std::alloc::AllocError;
 use zir_tree::comp::{Comp, Member};
 use zir_tree::expr::Expr;
 use zir_tree::stmt::{Access, Body, Stmt};
@@ -15,12 +14,9 @@ const STATEMENT: u64 = 500;
 /// About how many bytes an expression takes.
 const EXPRESSION: u64 = 160;
 
-/// Refuses more memory for instances than there is room for.
-pub fn check_room(bytes: u64) -> Result<(), AllocError> {
-    if bytes > ROOM {
-        return Err(AllocError);
-    }
-    Ok(())
+/// Whether there is room for so many bytes of instances.
+pub fn has_room(bytes: u64) -> bool {
+    bytes <= ROOM
 }
 
 /// About how many bytes an expression takes.
