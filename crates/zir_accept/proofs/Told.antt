@@ -43,25 +43,25 @@ types_told w n (type_errors.Instances at) answer a h = subst (λ r. Tells (after
 types_told w n type_errors.Memory answer a h = subst (λ r. Tells (after_types w n) (Err r)) (sym a) tt
 
 -- a refusal, or want of memory in its place
-reason_kept : {A : Type 0} (why answer : Refusal) → IsReason why answer → Keeps {A = A} (Some why) (Err answer)
-reason_kept why refused.Memory h = tt
-reason_kept why other h = ap Some (sym h)
+reason_kept : (A : Type 0) (why answer : Refusal) → IsReason why answer → Keeps {A = A} (Some why) (Err answer)
+reason_kept A why refused.Memory h = tt
+reason_kept A why other h = ap Some (sym h)
 
 -- want of memory tells nothing
-no_reason_kept : {A : Type 0} (broken : Option Refusal) (answer : Refusal) → IsReason refused.Memory answer → Keeps {A = A} broken (Err answer)
-no_reason_kept broken refused.Memory h = tt
-no_reason_kept broken other h = subst (λ r. Keeps broken (Err r)) (sym h) tt
+no_reason_kept : (A : Type 0) (broken : Option Refusal) (answer : Refusal) → IsReason refused.Memory answer → Keeps {A = A} broken (Err answer)
+no_reason_kept A broken refused.Memory h = tt
+no_reason_kept A broken other h = subst (λ r. Keeps {A = A} broken (Err r)) (sym h) tt
 
 -- what is shared is refused
-pub sharing_kept : {A : Type 0} (c : Option conflict.Conflict) (p : Prog) (core : Core) (e : ShareError) (answer : Refusal) →
+pub sharing_kept : (A : Type 0) (c : Option conflict.Conflict) (p : Prog) (core : Core) (e : ShareError) (answer : Refusal) →
     IsReason (conflict_refusal p e) answer → sharing_answers.Refuses c e → Keeps {A = A} (after_sharing c p core) (Err answer)
-sharing_kept c p core (share_errors.Shared x at) answer a h =
-    subst (λ o. Keeps (after_sharing o p core) (Err answer)) (sym h) (reason_kept (share_refusal p (conflict.Shared x at)) answer a)
-sharing_kept c p core (share_errors.SplitPlace at) answer a h =
-    subst (λ o. Keeps (after_sharing o p core) (Err answer)) (sym h) (reason_kept (share_refusal p (conflict.SplitPlace at)) answer a)
-sharing_kept c p core (share_errors.OuterAssign x at) answer a h =
-    subst (λ o. Keeps (after_sharing o p core) (Err answer)) (sym h) (reason_kept (share_refusal p (conflict.OuterAssign x at)) answer a)
-sharing_kept c p core share_errors.Memory answer a h = no_reason_kept (after_sharing c p core) answer a
+sharing_kept A c p core (share_errors.Shared x at) answer a h =
+    subst (λ o. Keeps {A = A} (after_sharing o p core) (Err answer)) (sym h) (reason_kept A (share_refusal p (conflict.Shared x at)) answer a)
+sharing_kept A c p core (share_errors.SplitPlace at) answer a h =
+    subst (λ o. Keeps {A = A} (after_sharing o p core) (Err answer)) (sym h) (reason_kept A (share_refusal p (conflict.SplitPlace at)) answer a)
+sharing_kept A c p core (share_errors.OuterAssign x at) answer a h =
+    subst (λ o. Keeps {A = A} (after_sharing o p core) (Err answer)) (sym h) (reason_kept A (share_refusal p (conflict.OuterAssign x at)) answer a)
+sharing_kept A c p core share_errors.Memory answer a h = no_reason_kept A (after_sharing c p core) answer a
 
 -- what is shared is allowed
 pub sharing_allowed : {A : Type 0} (c : Option conflict.Conflict) (p : Prog) (core : Core) (r : Result A Refusal) →
@@ -69,13 +69,13 @@ pub sharing_allowed : {A : Type 0} (c : Option conflict.Conflict) (p : Prog) (co
 sharing_allowed c p core r h kept = subst (λ o. Keeps (after_sharing o p core) r) (sym h) kept
 
 -- a limit is passed
-pub limits_kept : {A : Type 0} (passed : Option Passed) (e : LimitError) (answer : Refusal) →
+pub limits_kept : (A : Type 0) (passed : Option Passed) (e : LimitError) (answer : Refusal) →
     answer ≡ passed_refusal e → limits_answers.Refuses passed e → Keeps {A = A} (broken_limit passed) (Err answer)
-limits_kept passed (limit_errors.Passed kind at) answer a h = subst (λ r. Keeps (broken_limit passed) (Err r)) (sym a) (ap broken_limit h)
-limits_kept passed limit_errors.Memory answer a h = subst (λ r. Keeps (broken_limit passed) (Err r)) (sym a) tt
+limits_kept A passed (limit_errors.Passed kind at) answer a h = subst (λ r. Keeps {A = A} (broken_limit passed) (Err r)) (sym a) (ap broken_limit h)
+limits_kept A passed limit_errors.Memory answer a h = subst (λ r. Keeps {A = A} (broken_limit passed) (Err r)) (sym a) tt
 
 -- a rule is broken
-pub rules_told : {A : Type 0} (broken : Option Refusal) (accepted : Accepted) (why : Refusal) →
+pub rules_told : (A : Type 0) (broken : Option Refusal) (accepted : Accepted) (why : Refusal) →
     Keeps {A = A} broken (Err why) → Tells (unless_broken broken accepted) (Err why)
-rules_told broken accepted refused.Memory h = tt
-rules_told broken accepted other h = ap (λ o. unless_broken o accepted) h
+rules_told A broken accepted refused.Memory h = tt
+rules_told A broken accepted other h = ap (λ o. unless_broken o accepted) h

@@ -22,9 +22,6 @@ read_told other told = tt
 not_both : (p : Prog) (why : Refusal) → Ok p ≡ Err why → ⊥
 not_both p why h = cc
 
-same_why : (e f : Refusal) (A : Type 0) → Err {A = Prog} e ≡ Err f → e ≡ f
-same_why e f A h = cc
-
 pub one : HasOneReading → HasOneVerdict
 one reading text a b told_a told_b (read h) (read k) =
     let same : Ok h.program ≡ Ok k.program = reading text (Ok h.program) (Ok k.program) tt tt h.reads k.reads in

@@ -1,6 +1,7 @@
 // What is done with a text: its program is run, checked or shown, and a refused text is noted.
 
 ghost use Rattle.std.specs.Prelude.{ℕ, List, ◌≡◌, ◌≤◌, ◌^◌, ◌⊎◌, Option, Err};
+ghost use Rattle.zir_accept.specs.Accepting.{Tells, judged};
 ghost use Rattle.zir_meaning.specs.Answer.{Answer};
 ghost use Rattle.zir_narrow.specs.Narrow.{narrow};
 ghost use Rattle.zir_outside.specs.Causes.{Rose};
@@ -89,9 +90,40 @@ fn perform<S: Source, K: Sink, N: Sink>(
     ensures quiet { IsQuietRun result → notes.new ≡ notes.old }
     ensures unread { AsksNoRun (asked_of job) → input.new ≡ input.old }
 {
-    match judge(alloc, program) {
-        Ok(accepted) => perform_accepted(alloc, job, program, &accepted, input, out, notes),
-        Err(why) => note(job.name(), &why, notes),
+    let verdict = judge(alloc, program);
+    let status = perform_judged(alloc, job, program, &verdict, input, out, notes);
+    drop(verdict);
+    status
+}
+
+/// Does what is asked of a program with the verdict on it, or notes why it is refused, and answers the status.
+fn perform_judged<S: Source, K: Sink, N: Sink>(
+    alloc: Global,
+    job: Job<'_>,
+    program: &Prog,
+    verdict: &Result<Accepted, Refusal>,
+    input: &mut S,
+    out: &mut K,
+    notes: &mut N,
+) -> u8
+    requires budget { HasBudget (asked_of job) }
+    requires told { Tells (judged program.now) verdict.now }
+    ensures keeps { (a : Answer) → Follows (asked_of job) program.now (verdict_on (asked_of job) program.now) (S.left input.old) a
+        → Keeps result a
+        (K.stands_for out.old) (K.stands_for out.new) (K.faults out.old) (K.faults out.new)
+        (N.stands_for notes.old) (N.stands_for notes.new) }
+    ensures refused { result ≡ 2 → HasFault (verdict_on (asked_of job) program.now) }
+    ensures statuses { IsSettled result ⊎ IsBroken result }
+    ensures read_fault { result ≡ 7 → Rose (S.faults input.old) (S.faults input.new) }
+    ensures write_fault { result ≡ 8
+        → Rose (K.faults out.old) (K.faults out.new) ⊎ Rose (N.faults notes.old) (N.faults notes.new) }
+    ensures untouched { result ≡ 2 → (input.new ≡ input.old) × (out.new ≡ out.old) }
+    ensures quiet { IsQuietRun result → notes.new ≡ notes.old }
+    ensures unread { AsksNoRun (asked_of job) → input.new ≡ input.old }
+{
+    match verdict {
+        Ok(accepted) => perform_accepted(alloc, job, program, accepted, input, out, notes),
+        Err(why) => note(job.name(), why, notes),
     }
 }
 

@@ -8,4 +8,4 @@ pub returns-in-Ok : goal.returns-in-Ok
 returns-in-Ok c = ap broken_limit c.in-Ok.ensures
 
 pub returns-in-Err : goal.returns-in-Err
-returns-in-Err c = limits_kept (limits c.args.program.now c.args.core.now) c.in-Err.error c.limit_fault.result c.limit_fault.ensures c.in-Err.ensures
+returns-in-Err c = limits_kept (Unit {0}) (limits c.args.program.now c.args.core.now) c.in-Err.error c.limit_fault.result c.limit_fault.ensures c.in-Err.ensures

@@ -8,5 +8,5 @@ returns-in-Ok c =
 
 pub returns-in-Err : goal.returns-in-Err
 returns-in-Err c =
-    sharing_kept (refusal_of c.args.program.now) c.args.program.now.program c.args.core.now
+    sharing_kept (Unit {0}) (refusal_of c.args.program.now) c.args.program.now.program c.args.core.now
     c.in-Err.error c.share_fault.result c.share_fault.ensures c.in-Err.ensures

@@ -3,7 +3,7 @@ use Rattle.zir_accept.specs.Accepting.{judged}
 use Rattle.zir_words.specs.Words.{asked_of}
 use Rattle.zir_run.proofs.Keep.{note_status}
 use Rattle.zir_run.proofs.Verdicts.{accepted_means, accepted_fault, refused_means, refused_fault, told_fault, told_two, refusal_noted}
-use Rattle.zir_run.proofs.perform.perform.Goals as goal
+use Rattle.zir_run.proofs.perform.perform_judged.Goals as goal
 
 pub returns-in-Ok-clause-keeps : goal.returns-in-Ok-clause-keeps
 returns-in-Ok-clause-keeps g c a m =
