@@ -1,0 +1,4 @@
+pub mod FirstBytes
+pub mod Spelling
+pub mod Walking
+pub mod Sound
