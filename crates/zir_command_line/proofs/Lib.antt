@@ -5,3 +5,4 @@ pub mod Sound
 pub mod Complete
 pub mod Commands
 pub mod Faulty
+pub mod Lists
