@@ -1,5 +1,5 @@
 -- What a walk to an end asks for, and that it is all that words ask for.
-use Rattle.std.proofs.Common.{◌≡◌, ◌≢◌, ◌⊎◌, ℕ, Bool, true, false, cond, List, [], ◌∷◌, ◌++◌, Option, Some, None, refl, sym, ◌∙◌, ap, subst, inl, inr}
+use Rattle.std.proofs.Common.{◌≡◌, ℕ, Bool, true, false, cond, List, [], ◌∷◌, ◌++◌, Option, Some, None, refl, sym, ◌∙◌, ap, subst, inl, inr}
 use Rattle.std.specs.Prelude.{codes, filter_map, option_to_list, unwrap_or, bytes_eq}
 use Rattle.std.specs.List.{cons_option}
 use Rattle.zir_tree.specs.declared.format.Format.{Format}
@@ -10,7 +10,7 @@ use Rattle.zir_command_line.specs.Walk.{State, start, walk, ends, finish, run_of
 use Rattle.zir_command_line.proofs.FirstBytes.{alike}
 use Rattle.zir_command_line.proofs.Walking.{Gives, flag}
 use Rattle.zir_command_line.proofs.Sound.{Found, found}
-use Rattle.zir_command_line.proofs.Complete.{Walked, walked}
+use Rattle.zir_command_line.proofs.Complete.{walked}
 
 -- ---- options that are given once or not
 
@@ -40,6 +40,7 @@ once_flag {X} d v f same (c ∷ cs) w e = by_value (once_flag d v f same cs w) (
     alone : (x : X) (xs : List X) → x ≡ v → IsGiven d (x ∷ xs) w → (b : Bool) × (flag v b ≡ x ∷ xs) × (w ≡ up v d b)
     alone x [] is e = (true, ap (λ x. x ∷ []) (sym is), e ∙ is)
     alone x (y ∷ ys) is e = absurd e
+
     by_value : (IsGiven d (filter_map f cs) w → (b : Bool) × (flag v b ≡ filter_map f cs) × (w ≡ up v d b)) → (o : Option X) → f c ≡ o
         → IsGiven d (cons_option o (filter_map f cs)) w → (b : Bool) × (flag v b ≡ cons_option o (filter_map f cs)) × (w ≡ up v d b)
     by_value more None q e = more e
@@ -83,7 +84,8 @@ run_found ws t name e h =
       ticks = given 1_000_000_000_000 t.ticks (filter_map ticks_of f.options) f.gives.ticks;
       workers = given 1 t.workers (filter_map workers_of f.options) f.gives.workers;
       auto = let v = given_flag true false t.auto (filter_map auto_of f.options) f.gives.auto in subst (λ b. IsGiven false (filter_map auto_of f.options) b) (plain t.auto) v;
-      format = given_flag Text Binary t.text (filter_map format_of f.options) f.gives.text }
+      format = given_flag Text Binary t.text (filter_map format_of f.options) f.gives.text;
+    }
   where
     plain : (b : Bool) → up true false b ≡ b
     plain true = refl
@@ -119,7 +121,8 @@ run_ends ws run r =
     let w = walked r.line (start true) t refl refl (inl refl) g in
     record {
       ending = record { last = record t { next = w.at }; walks = w.walks; ends_so = ap (λ b. cond b (Some run.program) None) w.ends_so };
-      is = λ i. record { ticks = ticks.2 i; workers = workers.2 i; auto = (auto.2 ∙ plain auto.0) i; format = text.2 i; program = run.program } }
+      is = λ i. record { ticks = ticks.2 i; workers = workers.2 i; auto = (auto.2 ∙ plain auto.0) i; format = text.2 i; program = run.program };
+    }
   where
     plain : (b : Bool) → up true false b ≡ b
     plain true = refl

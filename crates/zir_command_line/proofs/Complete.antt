@@ -1,16 +1,15 @@
 -- A line is read by a walk to an end.
-use Rattle.std.proofs.Common.{◌≡◌, ◌≢◌, ◌≤◌, ◌<◌, ◌^◌, ◌==◌, ◌⊎◌, ℕ, Bool, true, false, cond, not, eqb, ◌&&◌, ◌||◌, List, [], ◌∷◌, ◌++◌, length, get_or, Option, Some, None, is_some, is_none, refl, sym, ◌∙◌, ap, subst, inl, inr, arith}
-use Rattle.std.specs.Prelude.{All, codes, decimal, filter_map, option_to_list, option_map, option_and_then, bytes_eq}
+use Rattle.std.proofs.Common.{◌≡◌, ◌^◌, ◌⊎◌, ℕ, Bool, true, false, cond, not, eqb, ◌&&◌, ◌||◌, List, [], ◌∷◌, ◌++◌, length, Option, Some, None, is_some, is_none, refl, sym, ◌∙◌, ap, inl, inr, arith}
+use Rattle.std.specs.Prelude.{All, codes, decimal, filter_map, option_to_list}
 use Rattle.std.proofs.lemmas.Bool.Decides.{nat_tests}
 use Rattle.std.proofs.lemmas.List.Elements.{All-head, All-tail}
 use Rattle.zir_tree.specs.declared.format.Format.TheVariants.{Text}
-use Rattle.zir_command_line.specs.declared.reading.Kind.{Kind}
 use Rattle.zir_command_line.specs.declared.reading.Kind.TheVariants as kind
 use Rattle.zir_command_line.specs.declared.reading.Next.{Next}
 use Rattle.zir_command_line.specs.declared.reading.Next.TheVariants as next
 use Rattle.zir_command_line.specs.Words.{Choice, Ticks, Workers, Split, AsText, IsName, IsPlainName, IsWithin, IsLine, ticks_of, workers_of, auto_of, format_of}
 use Rattle.zir_command_line.specs.Words as words
-use Rattle.zir_command_line.specs.Walk.{State, kind_of, dashed, number_of, after, after_kind, after_name, after_ticks, after_workers, after_split, step, walk, ends, finish}
+use Rattle.zir_command_line.specs.Walk.{State, kind_of, dashed, after, after_kind, after_name, after_ticks, after_workers, step, walk, ends}
 use Rattle.zir_command_line.proofs.FirstBytes.{other_is_name}
 use Rattle.zir_command_line.proofs.Spelling.{spells}
 use Rattle.zir_command_line.proofs.Walking.{Gives, flag, walk_step}

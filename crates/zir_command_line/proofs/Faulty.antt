@@ -1,9 +1,9 @@
 -- Where words go wrong, and that there is one answer to them.
-use Rattle.std.proofs.Common.{◌≡◌, ◌≢◌, ◌⊎◌, ◌<◌, ◌≤◌, ◌+◌, ℕ, zero, suc, Bool, true, false, cond, List, [], ◌∷◌, ◌++◌, length, Option, Some, None, Result, Ok, Err, refl, sym, ◌∙◌, ap, subst, inl, inr, arith, append_assoc, length-append}
+use Rattle.std.proofs.Common.{◌≡◌, ◌≢◌, ◌<◌, ◌+◌, ℕ, Bool, true, false, List, [], ◌∷◌, ◌++◌, length, Some, None, Ok, Err, refl, sym, ◌∙◌, ap, subst, inl, inr, arith, append_assoc}
 use Rattle.std.specs.Prelude.{codes, option_and_then}
 use Rattle.std.proofs.lemmas.List.{append-nil}
-use Rattle.zir_command_line.specs.Words.{IsLine, Asked, ForRun, ForCheck, ForShow, ForHelp, ForVersion, IsRun, Ask}
-use Rattle.zir_command_line.specs.Faults.{AreBad, Begins, NoneGoesOn, FirstFault, Answers, HasOneAnswer}
+use Rattle.zir_command_line.specs.Words.{Asked, ForRun, ForCheck, ForShow, ForHelp, ForVersion, Ask}
+use Rattle.zir_command_line.specs.Faults.{AreBad, Begins, NoneGoesOn, FirstFault, HasOneAnswer}
 use Rattle.zir_command_line.specs.Walk.{State, Stops, TakesName, start, step, walk, finish, run_of}
 use Rattle.zir_command_line.proofs.Walking.{onwards, walk_append, walk_on}
 use Rattle.zir_command_line.proofs.Commands.{Ending, asked_once, run_found, name_found, run_ends, name_ends, run_only, check_only, show_only, help_only, version_only}
@@ -18,15 +18,18 @@ pub record Walks (command : List ℕ) (takes : Bool) : Type 0 where
 pub run_walks : Walks (codes "run") true
 run_walks = record {
   asks = λ ws t name e h. (ForRun (run_of t name), (refl, run_found ws t name e h));
-  ends_so = λ ws asked h. let o = run_only (codes "run") ws asked refl h in (o.0.program, (run_ends ws o.0 o.2).ending) }
+  ends_so = λ ws asked h. let o = run_only (codes "run") ws asked refl h in (o.0.program, (run_ends ws o.0 o.2).ending);
+}
 
 pub name_walks : (command : List ℕ) → TakesName command → Walks command false
 name_walks command (inl is) = record {
   asks = λ ws t name e h. (ForCheck name, (is, name_found ws t name e h));
-  ends_so = λ ws asked h. let o = check_only command ws asked is h in (o.0, name_ends ws o.0 o.2) }
+  ends_so = λ ws asked h. let o = check_only command ws asked is h in (o.0, name_ends ws o.0 o.2);
+}
 name_walks command (inr is) = record {
   asks = λ ws t name e h. (ForShow name, (is, name_found ws t name e h));
-  ends_so = λ ws asked h. let o = show_only command ws asked is h in (o.0, name_ends ws o.0 o.2) }
+  ends_so = λ ws asked h. let o = show_only command ws asked is h in (o.0, name_ends ws o.0 o.2);
+}
 
 -- ---- faults of those
 
@@ -46,7 +49,8 @@ end_fault command takes w ws t place e none count = record {
   split = sym (append-nil (command ∷ ws));
   count = omega arith;
   begins = begins_so command takes w ws t e;
-  wrong = λ asked h. let o = w.ends_so ws asked h in let same : o.1.last ≡ t = cc (o.1.walks) in let f : Some o.0 ≡ None = sym o.1.ends_so ∙ ap finish same ∙ none in cc }
+  wrong = λ asked h. let o = w.ends_so ws asked h in let same : o.1.last ≡ t = cc (o.1.walks) in let f : Some o.0 ≡ None = sym o.1.ends_so ∙ ap finish same ∙ none in cc;
+}
 
 -- no walk goes over a word at which it stops
 stopped : (s before : State) (front : List (List ℕ)) (bad : List ℕ) (more : List (List ℕ)) → walk s front ≡ Some before → step before bad ≡ None → walk s ((front ++ bad ∷ []) ++ more) ≡ None
@@ -63,8 +67,9 @@ stop_fault command takes w ws place s = record {
   count = let count = s.count in omega arith;
   begins = begins_so command takes w s.front s.before s.walks;
   wrong = λ b. let o = w.ends_so ((s.front ++ s.bad ∷ []) ++ b.more) b.asked b.asks in
-    let none = stopped (start takes) s.before s.front s.bad b.more s.walks s.stops in
-    let f : Some o.1.last ≡ None = sym o.1.walks ∙ none in cc }
+      let none = stopped (start takes) s.before s.front s.bad b.more s.walks s.stops in
+      let f : Some o.1.last ≡ None = sym o.1.walks ∙ none in cc;
+}
 
 -- ---- other faults
 
@@ -96,7 +101,8 @@ alone_fault c (w ∷ ws) asked h only some = record {
   split = refl;
   count = omega arith;
   begins = record { more = []; asked = asked; asks = h };
-  wrong = λ b. let none = only (w ∷ b.more) b.asked b.asks in cc }
+  wrong = λ b. let none = only (w ∷ b.more) b.asked b.asks in cc;
+}
 
 pub help_fault : (c : List ℕ) (ws : List (List ℕ)) → c ≡ codes "--help" → ws ≢ [] → FirstFault (c ∷ ws) 1
 help_fault c ws is some = alone_fault c ws ForHelp (is, refl) (λ more a h. (help_only c more a is h).1) some
@@ -144,7 +150,8 @@ earlier words p q f g h =
     wrong (record {
       more = l.rest ++ more.more;
       asked = more.asked;
-      asks = subst (λ ws. Ask ws more.asked) (ap (λ front. front ++ more.more) l.longer ∙ append_assoc f.front (l.next ∷ l.rest) more.more ∙ sym (append_assoc f.front (l.next ∷ []) (l.rest ++ more.more))) more.asks })
+      asks = subst (λ ws. Ask ws more.asked) (ap (λ front. front ++ more.more) l.longer ∙ append_assoc f.front (l.next ∷ l.rest) more.more ∙ sym (append_assoc f.front (l.next ∷ []) (l.rest ++ more.more))) more.asks;
+    })
 
 -- two places, neither of them in front
 level : (p q : ℕ) → (p < q → ⊥) → (q < p → ⊥) → p ≡ q

@@ -6,3 +6,4 @@ pub mod Complete
 pub mod Commands
 pub mod Faulty
 pub mod Lists
+pub mod Rows

@@ -1,8 +1,8 @@
 -- The words of a list, and where a walk over them stops.
-use Rattle.std.proofs.Common.{◌≡◌, ◌≤◌, ◌-◌, ◌+◌, ℕ, List, [], ◌∷◌, ◌++◌, map, length, get_or, take, drop, Option, Some, None, Result, Ok, Err, IfOk, IfErr, IsErrAnd, refl, sym, ◌∙◌, ap, subst, arith}
+use Rattle.std.proofs.Common.{◌≡◌, ◌≤◌, ◌-◌, ◌+◌, ℕ, List, [], ◌∷◌, map, length, get_or, take, drop, Option, Some, None, Result, Ok, Err, IfOk, IfErr, IsErrAnd, refl, sym, ◌∙◌, ap, subst, arith}
 use Rattle.std.specs.Prelude.{ok_or, option_map}
 use Rattle.std.proofs.lemmas.Grind.{common_steps}
-use Rattle.zir_command_line.specs.Walk.{State, Stops, step, walk}
+use Rattle.zir_command_line.specs.Walk.{State, Stops, step}
 use Rattle.zir_command_line.proofs.Walking.{walk_step}
 
 -- a list with its first item in front
@@ -20,7 +20,8 @@ stops_later s u w ws index place e h = record {
   count = let count = h.count in omega arith;
   before = h.before;
   walks = walk_step s u w h.front e ∙ h.walks;
-  stops = h.stops }
+  stops = h.stops;
+}
 
 -- a walk that stops at the first word
 pub stops_here : (s : State) (w : List ℕ) (ws : List (List ℕ)) (index : ℕ) → step s w ≡ None → Stops s (w ∷ ws) index index

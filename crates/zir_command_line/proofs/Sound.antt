@@ -1,6 +1,6 @@
 -- A walk to an end reads a line.
-use Rattle.std.proofs.Common.{◌≡◌, ◌≢◌, ◌≤◌, ◌<◌, ◌^◌, ◌==◌, ℕ, Bool, true, false, cond, not, eqb, ◌&&◌, ◌||◌, List, [], ◌∷◌, ◌++◌, length, get_or, Option, Some, None, is_some, is_none, refl, sym, ◌∙◌, ap, subst, inl, inr, arith}
-use Rattle.std.specs.Prelude.{All, codes, decimal, filter_map, option_to_list, option_map, option_and_then, bytes_eq}
+use Rattle.std.proofs.Common.{◌≡◌, ◌<◌, ◌^◌, ℕ, Bool, true, false, cond, not, eqb, ◌&&◌, ◌||◌, List, [], ◌∷◌, ◌++◌, length, Option, Some, None, is_some, is_none, refl, sym, ◌∙◌, ap, subst, arith}
+use Rattle.std.specs.Prelude.{All, codes, option_to_list, option_and_then, bytes_eq}
 use Rattle.std.proofs.lemmas.Bool.Decides.{nat_tests}
 use Rattle.std.proofs.lemmas.List.{append-nil}
 use Rattle.std.proofs.lemmas.List.Elements.{All-cons, All-nil}
@@ -11,7 +11,7 @@ use Rattle.zir_command_line.specs.declared.reading.Next.{Next}
 use Rattle.zir_command_line.specs.declared.reading.Next.TheVariants as next
 use Rattle.zir_command_line.specs.Words.{Choice, Ticks, Workers, Split, AsText, IsName, IsPlainName, IsWithin, IsLine, ticks_of, workers_of, auto_of, format_of}
 use Rattle.zir_command_line.specs.Words as words
-use Rattle.zir_command_line.specs.Walk.{State, kind_of, dashed, number_of, after, after_kind, after_name, after_ticks, after_workers, after_split, step, walk, ends, finish}
+use Rattle.zir_command_line.specs.Walk.{State, kind_of, dashed, number_of, after, after_kind, after_ticks, after_workers, step, walk, ends}
 use Rattle.zir_command_line.proofs.FirstBytes.{is_text}
 use Rattle.zir_command_line.proofs.Spelling.{number_is}
 use Rattle.zir_command_line.proofs.Walking.{Gives, flag}
@@ -113,7 +113,8 @@ gives_none s = record {
   workers = sym (append-nil (option_to_list s.workers));
   auto = sym (append-nil (flag true s.auto));
   text = sym (append-nil (flag Text s.text));
-  program = sym (append-nil (option_to_list s.program)) }
+  program = sym (append-nil (option_to_list s.program));
+}
 
 found_none : (s t : State) → s ≡ t → Found s t []
 found_none s t e = subst (λ u. Found s u []) e (record { options = []; names = []; line = words.no_words; gives = gives_none s; bare = λ f. refl })
@@ -172,7 +173,8 @@ ticks_value s t (v ∷ ws) a takes none d leads e =
           names = more.names;
           line = subst (λ x. IsLine (codes "--ticks" ∷ x ∷ ws) (Ticks n ∷ more.options) more.names) (sym is.1) (words.ticks is.0 more.line);
           gives = record { ticks = behind_none _ (option_to_list s.ticks) _ (ap option_to_list none) g.ticks; workers = g.workers; auto = g.auto; text = g.text; program = g.program };
-          bare = λ f. cc }
+          bare = λ f. cc;
+        }
 
 workers_value : (s t : State) (ws : List (List ℕ)) → s.next ≡ next.Workers → s.takes_options ≡ true → s.workers ≡ None → ends t.next ≡ true → LeadsBehind t ws → walk s ws ≡ Some t
     → Found s t (codes "--workers" ∷ ws)
@@ -192,7 +194,8 @@ workers_value s t (v ∷ ws) a takes none d leads e =
           names = more.names;
           line = subst (λ x. IsLine (codes "--workers" ∷ x ∷ ws) (Workers n ∷ more.options) more.names) (sym is.1) (words.workers is.0 more.line);
           gives = record { ticks = g.ticks; workers = behind_none _ (option_to_list s.workers) _ (ap option_to_list none) g.workers; auto = g.auto; text = g.text; program = g.program };
-          bare = λ f. cc }
+          bare = λ f. cc;
+        }
 
 split_value : (s t : State) (ws : List (List ℕ)) → s.next ≡ next.Split → s.takes_options ≡ true → s.auto ≡ false → ends t.next ≡ true → LeadsBehind t ws → walk s ws ≡ Some t
     → Found s t (codes "--split" ∷ ws)
@@ -209,7 +212,8 @@ split_value s t (v ∷ ws) a takes none d leads e =
       names = more.names;
       line = subst (λ x. IsLine (codes "--split" ∷ x ∷ ws) (Split ∷ more.options) more.names) (sym (is_text v (codes "auto") k.0)) (words.split more.line);
       gives = record { ticks = g.ticks; workers = g.workers; auto = behind_none _ (flag true s.auto) _ (ap (flag true) none) g.auto; text = g.text; program = g.program };
-      bare = λ f. cc }
+      bare = λ f. cc;
+    }
 
 by_kind : (k : Kind) (s t : State) (w : List ℕ) (ws : List (List ℕ)) → WordIs k w → s.next ≡ next.Any → ends t.next ≡ true → Leads t ws → LeadsBehind t ws
     → option_and_then (λ u. walk u ws) (after_kind k s w) ≡ Some t → Found s t (w ∷ ws)
@@ -247,7 +251,8 @@ by_kind kind.Text s t w ws is a d leads behind e =
       names = more.names;
       line = subst (λ x. IsLine (x ∷ ws) (AsText ∷ more.options) more.names) (sym is) (words.text more.line);
       gives = record { ticks = g.ticks; workers = g.workers; auto = g.auto; text = behind_none _ (flag Text s.text) _ (ap (flag Text) none) g.text; program = g.program };
-      bare = λ f. cc }
+      bare = λ f. cc;
+    }
 by_kind kind.Separator s t w ws is a d leads behind e =
     let more = named ws (record s { next = next.Name }) t refl e in
     let g = more.gives in
@@ -256,7 +261,8 @@ by_kind kind.Separator s t w ws is a d leads behind e =
       names = ws;
       line = subst (λ x. IsLine (x ∷ ws) [] ws) (sym is) (words.separator more.names);
       gives = record { ticks = g.ticks; workers = g.workers; auto = g.auto; text = g.text; program = g.program };
-      bare = λ f. refl }
+      bare = λ f. refl;
+    }
 by_kind kind.Name s t w ws is a d leads behind e =
     let u : State = record s { program = Some w } in
     let k = not_kept (λ u. walk u ws) (eqb (length w) 0 || is_some s.program) u t e in
@@ -269,7 +275,8 @@ by_kind kind.Name s t w ws is a d leads behind e =
       names = w ∷ more.names;
       line = words.plain_name is more.line;
       gives = record { ticks = g.ticks; workers = g.workers; auto = g.auto; text = g.text; program = behind_none _ (option_to_list s.program) _ (ap option_to_list none) g.program };
-      bare = more.bare }
+      bare = more.bare;
+    }
 by_kind kind.Bad s t w ws is a d leads behind e = cc
 
 -- a walk to an end, where any word may come first, reads a line

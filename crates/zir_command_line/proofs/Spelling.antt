@@ -1,10 +1,10 @@
 -- A number's decimal spelling, and what `parse` makes of it.
-use Rattle.std.proofs.Common.{◌≡◌, ◌≢◌, ◌≤◌, ◌<◌, ◌^◌, ℕ, zero, suc, Bool, true, false, cond, ◌&&◌, nat_le, leb-true, List, length, get_or, Option, Some, None, Result, Ok, Err, refl, sym, ◌∙◌, ap, arith}
+use Rattle.std.proofs.Common.{◌≡◌, ◌≤◌, ◌<◌, ◌^◌, ℕ, zero, suc, Bool, true, false, cond, ◌&&◌, nat_le, leb-true, List, length, get_or, Some, None, Result, Ok, Err, refl, ◌∙◌, ap, arith}
 use Rattle.std.specs.Prelude.{bytes_eq, decimal}
 use Rattle.std.specs.Result.{result_ok}
 use Rattle.std.specs.Str.Parse.{AllDigits, digits_value, ParsesUnsigned}
 use Rattle.std.proofs.lemmas.Str.Parse.{IsNumeralModel, numerals_by_value, tells_digits, parse_plain}
-use Rattle.std.proofs.lemmas.Fmt.{decimal-digits_value, decimal_digit, decimal_injective, decimal_nonempty, digits_value-decimal, first_decimal, parse-decimal}
+use Rattle.std.proofs.lemmas.Fmt.{decimal-digits_value, decimal_digit, decimal_nonempty, digits_value-decimal, first_decimal, parse-decimal}
 use Rattle.std.proofs.lemmas.Bool.Decides.{nat_tests}
 use Rattle.zir_command_line.specs.Words.{IsWithin}
 use Rattle.zir_command_line.specs.Walk.{number_of}
@@ -84,4 +84,4 @@ unfolding number_of
 spells_none most w none =
     let v = digits_value 10 w in
     kept_out (bytes_eq w (decimal v)) (nat_le 1 v) (nat_le v most) v
-        (λ same low high. none v (record { low = leb-true 1 v low; high = leb-true v most high }) (is_text w (decimal v) same))
+    (λ same low high. none v (record { low = leb-true 1 v low; high = leb-true v most high }) (is_text w (decimal v) same))

@@ -1,12 +1,11 @@
 -- The walk over words: in parts, onwards from any state, and what it gives.
-use Rattle.std.proofs.Common.{◌≡◌, ◌≢◌, ◌≤◌, ◌<◌, ◌^◌, ◌==◌, ℕ, Bool, true, false, cond, not, ◌&&◌, ◌||◌, List, [], ◌∷◌, ◌++◌, length, get_or, Option, Some, None, is_some, is_none, refl, sym, ◌∙◌, ap, subst, inl, inr, arith, append_assoc}
-use Rattle.std.specs.Prelude.{codes, decimal, filter_map, option_to_list, option_map, option_and_then}
+use Rattle.std.proofs.Common.{◌≡◌, ◌≤◌, ◌<◌, ◌^◌, ℕ, Bool, true, cond, List, [], ◌∷◌, ◌++◌, Option, Some, None, refl, ◌∙◌, ap, arith}
+use Rattle.std.specs.Prelude.{codes, decimal, filter_map, option_to_list, option_and_then}
 use Rattle.zir_tree.specs.declared.format.Format.TheVariants.{Text}
-use Rattle.zir_command_line.specs.declared.reading.Kind.TheVariants as kind
 use Rattle.zir_command_line.specs.declared.reading.Next.{Next}
 use Rattle.zir_command_line.specs.declared.reading.Next.TheVariants as next
-use Rattle.zir_command_line.specs.Words.{Choice, IsWithin, IsLine, ticks_of, workers_of, auto_of, format_of}
-use Rattle.zir_command_line.specs.Walk.{State, kind_of, dashed, number_of, after, step, walk, ends, finish}
+use Rattle.zir_command_line.specs.Words.{Choice, ticks_of, workers_of, auto_of, format_of}
+use Rattle.zir_command_line.specs.Walk.{State, kind_of, number_of, step, walk, ends, finish}
 use Rattle.zir_command_line.proofs.Spelling.{spells}
 
 -- ---- one step and many

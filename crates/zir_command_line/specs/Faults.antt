@@ -17,8 +17,8 @@ abbrev pub NoneGoesOn : List (List ℕ) → List (List ℕ) → Type 0
 NoneGoesOn front [] = AreBad front
 NoneGoesOn front (bad ∷ back) = Begins (front ++ bad ∷ []) → ⊥
 
--- the first word with which no words that ask for something go on, by the number of those before it; it is the number of all words where one
--- is missing behind the last
+-- the first word with which no words that ask for something go on, by the number of those before it; that is the number of all words
+-- where one is missing behind the last
 pub record FirstFault (words : List (List ℕ)) (place : ℕ) : Type 0 where
   pub front : List (List ℕ)
   pub back : List (List ℕ)

@@ -21,11 +21,27 @@ pub record State : Type 0 where
 
 -- what a line has given so far
 abbrev pub state_of : Line → State
-state_of line = record { ticks = line.ticks; workers = line.workers; auto = line.auto; text = line.text; program = option_map (λ name. name.now) line.program; takes_options = line.takes_options; next = line.next }
+state_of line = record {
+  ticks = line.ticks;
+  workers = line.workers;
+  auto = line.auto;
+  text = line.text;
+  program = option_map (λ name. name.now) line.program;
+  takes_options = line.takes_options;
+  next = line.next;
+}
 
 -- where no word was read
 abbrev pub start : Bool → State
-start takes_options = record { ticks = None; workers = None; auto = false; text = false; program = None; takes_options = takes_options; next = next.Any }
+start takes_options = record {
+  ticks = None;
+  workers = None;
+  auto = false;
+  text = false;
+  program = None;
+  takes_options = takes_options;
+  next = next.Any;
+}
 
 -- what a word is that begins with a dash
 unfoldable pub dashed : List ℕ → Kind
@@ -44,7 +60,9 @@ kind_of (byte ∷ bytes) = if byte == 45 then dashed (byte ∷ bytes) else kind.
 
 -- the number that a word spells
 unfoldable pub number_of : ℕ → List ℕ → Option ℕ
-number_of most word = let n = digits_value 10 word in if bytes_eq word (decimal n) && (nat_le 1 n && nat_le n most) then Some n else None
+number_of most word =
+    let n = digits_value 10 word in
+    if bytes_eq word (decimal n) && (nat_le 1 n && nat_le n most) then Some n else None
 
 -- after one more name
 abbrev pub after_name : State → List ℕ → Option State
@@ -116,7 +134,13 @@ pub record Stops (s : State) (words : List (List ℕ)) (index place : ℕ) : Typ
 
 -- the run that a line asks for
 abbrev pub run_of : State → List ℕ → AskedRun
-run_of s name = record { ticks = unwrap_or s.ticks 1_000_000_000_000; workers = unwrap_or s.workers 1; auto = s.auto; format = if s.text then Text else Binary; program = name }
+run_of s name = record {
+  ticks = unwrap_or s.ticks 1_000_000_000_000;
+  workers = unwrap_or s.workers 1;
+  auto = s.auto;
+  format = if s.text then Text else Binary;
+  program = name;
+}
 
 -- the commands that take the name of a program and no options
 abbrev pub TakesName : List ℕ → Type 0

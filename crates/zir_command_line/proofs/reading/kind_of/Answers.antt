@@ -1,4 +1,4 @@
-use Rattle.std.proofs.Common.{◌≡◌, ◌≢◌, ◌≤◌, ◌<◌, ℕ, List, length, get_or, refl, sym, ap, ◌∙◌, arith}
+use Rattle.std.proofs.Common.{get_or, refl, sym, ap, ◌∙◌, arith}
 use Rattle.zir_command_line.specs.Walk.{kind_of, dashed}
 use Rattle.zir_command_line.proofs.FirstBytes.{empty_is_bad, other_is_name, dash_is_dashed, none_is_bad}
 use Rattle.zir_command_line.proofs.reading.kind_of.Goals as goal
