@@ -1,5 +1,5 @@
 -- What a sink grew by over several puts.
-use Rattle.std.proofs.Common.{◌≡◌, List, ℕ, ◌++◌, Result, Ok, Err, OnOk, OnErr, refl, sym, ap, ◌∙◌, subst, append_assoc}
+use Rattle.std.proofs.Common.{List, ℕ, ◌++◌, Result, Ok, Err, OnOk, OnErr, sym, ap, ◌∙◌, subst, append_assoc}
 use Rattle.zir_outside.specs.Sinks.{Grew, GrewPart}
 
 -- first the one and then the other

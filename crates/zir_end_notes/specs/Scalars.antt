@@ -2,7 +2,7 @@
 use Rattle.std.specs.Prelude.{ℕ, zero, ℤ, pos, Bool, true, false, List, [], ◌∷◌, ◌++◌, codes, slice_index_or}
 use Rattle.std.specs.Fmt.{signed_decimal}
 use Rattle.zir_tree.specs.declared.types.Base.{Base}
-use Rattle.zir_tree.specs.declared.types.Base.TheVariants.{Unit, Bit, Bool as BoolTy, Int8, Int16, Int32, Int64, Complex16, Complex32, Struct}
+use Rattle.zir_tree.specs.declared.types.Base.TheVariants.{Unit, Bit, Bool as BoolTy, Complex16, Complex32, Struct}
 use Rattle.zir_meaning.specs.Notes.{bit_text, truth_text, with_commas, line_of, counts_of}
 
 -- whether a cell is not 0

@@ -1,4 +1,4 @@
-use Rattle.std.proofs.Common.{◌≡◌, List, ℕ, codes, refl, sym, ap, ◌∙◌, subst}
+use Rattle.std.proofs.Common.{◌≡◌, sym, ap, ◌∙◌, subst}
 use Rattle.zir_outside.specs.Sinks.{Grew, GrewPart}
 use Rattle.zir_meaning.specs.Notes.{input_note, spent_note, malformed_note, fault_note, trap_note}
 use Rattle.zir_end_notes.specs.Endings.{end_note}

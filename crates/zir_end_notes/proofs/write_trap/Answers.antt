@@ -1,6 +1,6 @@
-use Rattle.std.proofs.Common.{◌≡◌, ◌++◌, List, ℕ, codes, decimal, refl, sym, ap, ◌∙◌, subst, append_assoc}
+use Rattle.std.proofs.Common.{◌≡◌, ◌++◌, List, ℕ, codes, decimal, ap, ◌∙◌, subst, append_assoc}
 use Rattle.zir_outside.specs.Sinks.{Grew, GrewPart}
-use Rattle.zir_meaning.specs.Notes.{counts_of, place_text, trap_note}
+use Rattle.zir_meaning.specs.Notes.{counts_of, place_text}
 use Rattle.zir_end_notes.proofs.Growing.{from_ok, from_error}
 use Rattle.zir_end_notes.proofs.write_trap.Goals as goal
 
