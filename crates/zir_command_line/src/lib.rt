@@ -156,7 +156,7 @@ pub fn ask_once()
     ensures { AskOnce }
 {}
 
-/// The words of a command line ask for one thing, or have one first fault, and never both.
+/// There is one answer to words: the one thing that they ask for, or the place of their first fault.
 pub fn one_answer()
     ensures { HasOneAnswer }
 {}
