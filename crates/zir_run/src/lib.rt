@@ -108,12 +108,12 @@ fn perform_named<H: Shelf, S: Source, K: Sink, N: Sink>(
 ) -> u8
     requires { HasBudget (asked_of job) }
     ensures not_loaded { result ≡ 3
-        → Rose (H.faults shelf.old) (H.faults shelf.new) ⊎ IsAbsent (H.texts shelf.old) (name_of (asked_of job)) }
-    ensures absent { IsAbsent (H.texts shelf.old) (name_of (asked_of job)) → result ≡ 3 }
-    ensures refused { (text : List ℕ) → result ≡ 2 → Has (H.texts shelf.old) (name_of (asked_of job)) text
-        → IsRefused (asked_of job) text }
-    ensures keeps { (text : List ℕ) (a : Answer) → Has (H.texts shelf.old) (name_of (asked_of job)) text
-        → MeansOf (asked_of job) text (S.left input.old) a
+        → Rose (H.faults shelf.old) (H.faults shelf.new) ⊎ IsAbsent (H.texts shelf.old) (name_of (asked_of job.entry)) }
+    ensures absent { IsAbsent (H.texts shelf.old) (name_of (asked_of job.entry)) → result ≡ 3 }
+    ensures refused { (text : List ℕ) → result ≡ 2 → Has (H.texts shelf.old) (name_of (asked_of job.entry)) text
+        → IsRefused (asked_of job.entry) text }
+    ensures keeps { (text : List ℕ) (a : Answer) → Has (H.texts shelf.old) (name_of (asked_of job.entry)) text
+        → MeansOf (asked_of job.entry) text (S.left input.old) a
         → Keeps result a
         (K.stands_for out.old) (K.stands_for out.new) (K.faults out.old) (K.faults out.new)
         (N.stands_for notes.old) (N.stands_for notes.new) }
@@ -123,7 +123,7 @@ fn perform_named<H: Shelf, S: Source, K: Sink, N: Sink>(
         → Rose (K.faults out.old) (K.faults out.new) ⊎ Rose (N.faults notes.old) (N.faults notes.new) }
     ensures untouched { (result ≡ 2) ⊎ (result ≡ 3) → (input.new ≡ input.old) × (out.new ≡ out.old) }
     ensures quiet { (result ≡ 3) ⊎ IsQuietRun result → notes.new ≡ notes.old }
-    ensures unread { AsksNoRun (asked_of job) → input.new ≡ input.old }
+    ensures unread { AsksNoRun (asked_of job.entry) → input.new ≡ input.old }
     ensures texts { H.texts shelf.new ≡ H.texts shelf.old }
 {
     one_verdict();

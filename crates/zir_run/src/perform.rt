@@ -47,18 +47,18 @@ pub fn perform_text<S: Source, K: Sink, N: Sink>(
     notes: &mut N,
 ) -> u8
     requires { HasBudget (asked_of job) }
-    ensures keeps { (a : Answer) → MeansOf (asked_of job) text.now (S.left input.old) a
+    ensures keeps { (a : Answer) → MeansOf (asked_of job.entry) text.now (S.left input.old) a
         → Keeps result a
         (K.stands_for out.old) (K.stands_for out.new) (K.faults out.old) (K.faults out.new)
         (N.stands_for notes.old) (N.stands_for notes.new) }
-    ensures refused { result ≡ 2 → IsRefused (asked_of job) text.now }
+    ensures refused { result ≡ 2 → IsRefused (asked_of job.entry) text.now }
     ensures statuses { IsSettled result ⊎ IsBroken result }
     ensures read_fault { result ≡ 7 → Rose (S.faults input.old) (S.faults input.new) }
     ensures write_fault { result ≡ 8
         → Rose (K.faults out.old) (K.faults out.new) ⊎ Rose (N.faults notes.old) (N.faults notes.new) }
     ensures untouched { result ≡ 2 → (input.new ≡ input.old) × (out.new ≡ out.old) }
     ensures quiet { IsQuietRun result → notes.new ≡ notes.old }
-    ensures unread { AsksNoRun (asked_of job) → input.new ≡ input.old }
+    ensures unread { AsksNoRun (asked_of job.entry) → input.new ≡ input.old }
 {
     one_verdict();
     match read_program(alloc, text) {
@@ -77,18 +77,18 @@ fn perform<S: Source, K: Sink, N: Sink>(
     notes: &mut N,
 ) -> u8
     requires { HasBudget (asked_of job) }
-    ensures keeps { (a : Answer) → Follows (asked_of job) program.now (verdict_on (asked_of job) program.now) (S.left input.old) a
+    ensures keeps { (a : Answer) → Follows (asked_of job.entry) program.now (verdict_on (asked_of job.entry) program.now) (S.left input.old) a
         → Keeps result a
         (K.stands_for out.old) (K.stands_for out.new) (K.faults out.old) (K.faults out.new)
         (N.stands_for notes.old) (N.stands_for notes.new) }
-    ensures refused { result ≡ 2 → HasFault (verdict_on (asked_of job) program.now) }
+    ensures refused { result ≡ 2 → HasFault (verdict_on (asked_of job.entry) program.now) }
     ensures statuses { IsSettled result ⊎ IsBroken result }
     ensures read_fault { result ≡ 7 → Rose (S.faults input.old) (S.faults input.new) }
     ensures write_fault { result ≡ 8
         → Rose (K.faults out.old) (K.faults out.new) ⊎ Rose (N.faults notes.old) (N.faults notes.new) }
     ensures untouched { result ≡ 2 → (input.new ≡ input.old) × (out.new ≡ out.old) }
     ensures quiet { IsQuietRun result → notes.new ≡ notes.old }
-    ensures unread { AsksNoRun (asked_of job) → input.new ≡ input.old }
+    ensures unread { AsksNoRun (asked_of job.entry) → input.new ≡ input.old }
 {
     let verdict = judge(alloc, program);
     let status = perform_judged(alloc, job, program, &verdict, input, out, notes);
@@ -108,18 +108,18 @@ fn perform_judged<S: Source, K: Sink, N: Sink>(
 ) -> u8
     requires budget { HasBudget (asked_of job) }
     requires told { Tells (judged program.now) verdict.now }
-    ensures keeps { (a : Answer) → Follows (asked_of job) program.now (verdict_on (asked_of job) program.now) (S.left input.old) a
+    ensures keeps { (a : Answer) → Follows (asked_of job.entry) program.now (verdict_on (asked_of job.entry) program.now) (S.left input.old) a
         → Keeps result a
         (K.stands_for out.old) (K.stands_for out.new) (K.faults out.old) (K.faults out.new)
         (N.stands_for notes.old) (N.stands_for notes.new) }
-    ensures refused { result ≡ 2 → HasFault (verdict_on (asked_of job) program.now) }
+    ensures refused { result ≡ 2 → HasFault (verdict_on (asked_of job.entry) program.now) }
     ensures statuses { IsSettled result ⊎ IsBroken result }
     ensures read_fault { result ≡ 7 → Rose (S.faults input.old) (S.faults input.new) }
     ensures write_fault { result ≡ 8
         → Rose (K.faults out.old) (K.faults out.new) ⊎ Rose (N.faults notes.old) (N.faults notes.new) }
     ensures untouched { result ≡ 2 → (input.new ≡ input.old) × (out.new ≡ out.old) }
     ensures quiet { IsQuietRun result → notes.new ≡ notes.old }
-    ensures unread { AsksNoRun (asked_of job) → input.new ≡ input.old }
+    ensures unread { AsksNoRun (asked_of job.entry) → input.new ≡ input.old }
 {
     match verdict {
         Ok(accepted) => perform_accepted(alloc, job, program, accepted, input, out, notes),
@@ -138,18 +138,18 @@ fn perform_accepted<S: Source, K: Sink, N: Sink>(
     notes: &mut N,
 ) -> u8
     requires { HasBudget (asked_of job) }
-    ensures keeps { (a : Answer) → Follows (asked_of job) program.now (for_asked (asked_of job) program.now accepted.now) (S.left input.old) a
+    ensures keeps { (a : Answer) → Follows (asked_of job.entry) program.now (for_asked (asked_of job.entry) program.now accepted.now) (S.left input.old) a
         → Keeps result a
         (K.stands_for out.old) (K.stands_for out.new) (K.faults out.old) (K.faults out.new)
         (N.stands_for notes.old) (N.stands_for notes.new) }
-    ensures refused { result ≡ 2 → HasFault (for_asked (asked_of job) program.now accepted.now) }
+    ensures refused { result ≡ 2 → HasFault (for_asked (asked_of job.entry) program.now accepted.now) }
     ensures statuses { IsSettled result ⊎ IsBroken result }
     ensures read_fault { result ≡ 7 → Rose (S.faults input.old) (S.faults input.new) }
     ensures write_fault { result ≡ 8
         → Rose (K.faults out.old) (K.faults out.new) ⊎ Rose (N.faults notes.old) (N.faults notes.new) }
     ensures untouched { result ≡ 2 → (input.new ≡ input.old) × (out.new ≡ out.old) }
     ensures quiet { IsQuietRun result → notes.new ≡ notes.old }
-    ensures unread { AsksNoRun (asked_of job) → input.new ≡ input.old }
+    ensures unread { AsksNoRun (asked_of job.entry) → input.new ≡ input.old }
 {
     match job {
         Job::Run(words) => run_accepted(alloc, words, program, accepted, input, out, notes),
@@ -169,7 +169,7 @@ fn run_accepted<S: Source, K: Sink, N: Sink>(
     notes: &mut N,
 ) -> u8
     requires { words.ticks ≤ 2 ^ 48 }
-    ensures keeps { (a : Answer) → Follows (ForRun words.ticks words.name.now) program.now
+    ensures keeps { (a : Answer) → Follows (ForRun words.entry.ticks words.entry.name.now) program.now
         (built (narrow program.now accepted.now.core) accepted.now) (S.left input.old) a
         → Keeps result a
         (K.stands_for out.old) (K.stands_for out.new) (K.faults out.old) (K.faults out.new)
