@@ -127,9 +127,10 @@ fn perform_named<H: Shelf, S: Source, K: Sink, N: Sink>(
     ensures texts { H.texts shelf.new ≡ H.texts shelf.old }
 {
     one_verdict();
-    match load(alloc, job.name(), shelf) {
+    let name = job.name();
+    match load(alloc, name, shelf) {
         Ok(text) => perform_text(alloc, job, text.as_slice(), input, out, notes),
-        Err(Unloaded::TooLong) => refuse(job.name(), &Refusal::TooLong, notes),
+        Err(Unloaded::TooLong) => refuse(name, &Refusal::TooLong, notes),
         Err(Unloaded::NotLoaded) => NOT_LOADED,
         Err(Unloaded::Memory) => NO_MEMORY,
     }
