@@ -12,27 +12,27 @@ use Rattle.zir_run.proofs.perform_named.Goals as goal
 
 pub returns-in-Ok-clause-refused : goal.returns-in-Ok-clause-refused
 returns-in-Ok-clause-refused g c text two has =
-    let loaded = c.in-Ok.ensures.loads text (subst (λ name. Has (g.H.Shelf.texts c.args.shelf.now) name text) (sym c.name.ensures) has) in
+    let loaded = c.in-Ok.ensures.loads text (subst (λ name. Has (g.H.Shelf.texts c.args.shelf.now) name text) (sym c.name-name.ensures) has) in
     subst (IsRefused (asked_of c.args.job)) (c.as_slice.ensures.value ∙ loaded) (c.perform_text.ensures.refused two)
 
 pub returns-in-Ok-clause-keeps : goal.returns-in-Ok-clause-keeps
 returns-in-Ok-clause-keeps g c text a has m =
-    let loaded = c.in-Ok.ensures.loads text (subst (λ name. Has (g.H.Shelf.texts c.args.shelf.now) name text) (sym c.name.ensures) has) in
+    let loaded = c.in-Ok.ensures.loads text (subst (λ name. Has (g.H.Shelf.texts c.args.shelf.now) name text) (sym c.name-name.ensures) has) in
     c.perform_text.ensures.keeps a
     (subst (λ t. MeansOf (asked_of c.args.job) t (g.S.Source.left c.args.input.now) a) (sym (c.as_slice.ensures.value ∙ loaded)) m)
 
 pub returns-in-Err-TooLong-clause-refused : goal.returns-in-Err-TooLong-clause-refused
 returns-in-Err-TooLong-clause-refused g c text two has =
     let e = rw c.in-Err-TooLong.field-0-is at c.in-Err-TooLong.ensures in
-    let long = e.loads text (subst (λ name. Has (g.H.Shelf.texts c.args.shelf.now) name text) (sym c.name.ensures) has) in
+    let long = e.loads text (subst (λ name. Has (g.H.Shelf.texts c.args.shelf.now) name text) (sym c.name-name.ensures) has) in
     record { why = TooLong; refuses = inl (too_long text long); is_verdict = tt }
 
 pub returns-in-Err-TooLong-clause-keeps : goal.returns-in-Err-TooLong-clause-keeps
 returns-in-Err-TooLong-clause-keeps g c text a has m =
     let e = rw c.in-Err-TooLong.field-0-is at c.in-Err-TooLong.ensures in
-    let long = e.loads text (subst (λ name. Has (g.H.Shelf.texts c.args.shelf.now) name text) (sym c.name.ensures) has) in
+    let long = e.loads text (subst (λ name. Has (g.H.Shelf.texts c.args.shelf.now) name text) (sym c.name-name.ensures) has) in
     let is = text_note c.one_verdict.ensures (asked_of c.args.job) text (g.S.Source.left c.args.input.now) a TooLong tt (too_long text long) m
-    ∙ ap (λ name. refused_answer name TooLong) (sym c.name.ensures) in
+    ∙ ap (λ name. refused_answer name TooLong) (sym c.name-name.ensures) in
     let notes = ap (λ (b : Answer). b.notes) is in
     keeps_refusal c.refuse.result a (g.K.Sink.stands_for c.args.out.now) (g.N.Sink.stands_for c.args.notes.now) (g.N.Sink.stands_for c.refuse.new.notes)
     (g.K.Sink.faults c.args.out.now) (ap (λ (b : Answer). b.status) is) (ap (λ (b : Answer). b.out) is) c.refuse.ensures.status
