@@ -201,12 +201,10 @@ pub fn indexed(alloc: Global, at: Place, s: Typed, t: Typed) -> Result<Typed, Ty
 pub fn slice_lengths(alloc: Global, count: u64, more: &[u64]) -> Result<Items<u64>, AllocError>
     ensures { IfOk result (λ lengths. lengths ≡ count ∷ more.now) }
 {
-    let mut lengths = Items::new(alloc);
+    let mut lengths = Vec::new(alloc);
     lengths.push(count)?;
-    for n in more {
-        lengths.push(*n)?;
-    }
-    Ok(lengths)
+    lengths.extend_from_slice(more)?;
+    Ok(Items::from_vec(lengths))
 }
 
 /// The rule of a slice.
