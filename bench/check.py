@@ -2,7 +2,8 @@
 
 Each text should pass within a second and 500 MB, and what does not is flagged. `check` runs on the text, `show` on the same text, and `check` on the text
 without its last byte, which is read and refused as no program; the shortest times tell what `check` takes as ratios to the others. Each text is accepted, or refused
-for the reason that stands beside it, and the program must answer so. A figure is one of one machine, and no test rests on it.
+for the reason that stands beside it, and the program must answer so; want of memory is such a reason, where all instances together would take too much. A figure is
+one of one machine, and no test rests on it.
 Usage, after `make build`: python3 bench/check.py [--texts FOLDER], which writes the texts into a folder and measures nothing.
 """
 
@@ -17,6 +18,7 @@ LONGEST = 65536
 RUNS = 5
 SECONDS = 1
 MEBIBYTES = 500e6 / (1 << 20)
+NO_MEMORY = "want of memory"
 DIGITS = "0123456789abcdefghijklmnopqrstuvwxyz"
 
 
@@ -120,8 +122,8 @@ def texts():
     variables = many(lambda number: f"var {name(number)}:bit;", 2500)
     return {
         "thirty components that call the one before at two types": (two_types(), "limit instances"),
-        "a component of 3,900 statements at 256 types": (instances("do{y:=y^y^y^y};"), None),
-        "a component of 8,300 members at 256 types": (instances("emit y;"), None),
+        "a component of 3,900 statements at 256 types": (instances("do{y:=y^y^y^y};"), NO_MEMORY),
+        "a component of 8,300 members at 256 types": (instances("emit y;"), NO_MEMORY),
         "arrays of 4,096 in arrays of 4,096": (taken_arrays(), "limit cells"),
         "arrays of one in arrays of one, 20,000 deep": (deep_arrays(), None),
         "a type 9,000 deep": (filled(lambda number: "arr[1]", LONGEST, "let comp main=read[", "bit]>>>{x<-take;emit x;return x}>>>write[bit]"), "types differ"),
@@ -157,7 +159,7 @@ def measured(title, text, reason, folder):
         with open(path, "w") as file:
             file.write(content)
     ran = subprocess.run([ZIRIA, "check", whole], stdin=subprocess.DEVNULL, capture_output=True, text=True)
-    found = ran.stderr.strip().rpartition(": ")[2] or None
+    found = NO_MEMORY if ran.returncode == 9 else ran.stderr.strip().rpartition(": ")[2] or None
     times = shortest({"check": [ZIRIA, "check", whole], "show": [ZIRIA, "show", whole], "cut": [ZIRIA, "check", cut]}, RUNS)
     most = memory([ZIRIA, "check", whole])
     flags = [flag for flag, raised in (("SLOW", times["check"] > SECONDS), ("LARGE", most > MEBIBYTES), (f"ANSWERED {found}", found != reason)) if raised]

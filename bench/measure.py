@@ -54,7 +54,7 @@ def is_waiting(pid):
 
 
 def memory(words):
-    """The most memory, in MiB, that a program has had when it puts its first byte, or 0 where it ends without one."""
+    """The most memory, in MiB, that a program has had when it puts its first byte, or when it ends where it puts none."""
     reader, writer = full_pipe()
     child = subprocess.Popen(words, stdin=subprocess.DEVNULL, stdout=writer, stderr=writer)
     os.close(writer)
@@ -67,5 +67,6 @@ def memory(words):
     while os.read(reader, 1 << 16):
         pass
     os.close(reader)
-    child.wait()
-    return found[0] / 1024 if found else 0
+    _, status, usage = os.wait4(child.pid, 0)
+    child.returncode = os.waitstatus_to_exitcode(status)
+    return (found[0] if found else usage.ru_maxrss) / 1024
