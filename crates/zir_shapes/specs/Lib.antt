@@ -1,0 +1,4 @@
+pub mod Shapes
+pub mod Offsets
+pub mod Laws
+pub mod Rows
