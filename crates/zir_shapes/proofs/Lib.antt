@@ -1,2 +1,5 @@
 pub mod Overlaying
 pub mod PartCells
+pub mod Fitting
+pub mod Growing
+pub mod Slicing
