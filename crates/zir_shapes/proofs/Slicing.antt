@@ -65,7 +65,7 @@ none-at (v ∷ vs) zero le = absurd (omega arith)
 none-at (v ∷ vs) (suc i) le = none-at vs i (omega arith)
 
 -- the cells with another value at a place
-cells-set : (vs : List Val) (i : ℕ) (new : Val) → i < length vs →
+pub cells-set : (vs : List Val) (i : ℕ) (new : Val) → i < length vs →
     list_cells (slice_set vs i new) ≡ list_cells (take i vs) ++ (cells_of new ++ list_cells (drop (suc i) vs))
 cells-set [] i new lt = absurd (omega arith)
 cells-set (v ∷ vs) zero new lt = refl
