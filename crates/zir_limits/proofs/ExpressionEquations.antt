@@ -1,5 +1,5 @@
 -- The equations of expressions at the trees that code has.
-use Rattle.std.specs.Prelude.{◌≡◌, ℕ, suc, ◌+◌, max, List, [], ◌∷◌, ◌++◌, length, refl}
+use Rattle.std.specs.Prelude.{◌≡◌, ℕ, suc, ◌+◌, ◌*◌, max, List, [], ◌∷◌, ◌++◌, length, refl}
 use Rattle.std.proofs.Common.{ap, ◌∙◌}
 use denote.Hole.Carrier.{hidden}
 use Rattle.zir_tree.specs.declared.ident.Ident.{Ident}
@@ -11,11 +11,11 @@ use Rattle.zir_tree.specs.declared.expr.Callee.{Callee}
 use Rattle.zir_tree.specs.declared.expr.Expr.{Expr, Unary, Binary, Index, Slice, Part, Call, Array, Convert, Complex}
 use Rattle.zir_tree.specs.declared.expr.Expr.TheBlock.{shape-the_row-Expr-0, hidden-the_row-Expr-0, shape-the_row-Expr-1, hidden-the_row-Expr-1}
 use Rattle.zir_types.specs.Kinds.{arr}
-use Rattle.zir_types.specs.Scope.{Visible, part_in, cells_in}
+use Rattle.zir_types.specs.Scope.{Visible, part_in, capped, cells_in}
 use Rattle.zir_types.specs.Typing.{row_length}
 use Rattle.zir_types.specs.Known.{type_of, head_type, element_of, part_ty}
 use Rattle.zir_types.specs.Needs.{Needs, expr_need, row_need, exprs_need, call_need, counted}
-use Rattle.zir_types.specs.Measures.{Measure, Spans, Holds, in_expr, in_row, in_exprs, in_callee}
+use Rattle.zir_types.specs.Measures.{Spans, Holds, in_expr, in_row, in_exprs, in_callee}
 use Rattle.zir_limits.specs.Lists.{first_ty, array_ty}
 
 pub need-Unary : (n : Needs) (op : Prefix) (base : Base) (e : Expr) (at : Place) → expr_need n (Unary op base e at) ≡ expr_need n e
@@ -132,3 +132,8 @@ pub in-Array : (g : Visible) (es : List Expr) (at : Place) →
 in-Array g es at =
     ap (λ k. Spans k at ∷ Holds (cells_in g.shapes (type_of g (Array es at))) at ∷ in_row g (hidden-the_row-Expr-1 es)) (row_length-list es)
     ∙ ap (λ r. Spans (length es) at ∷ Holds (cells_in g.shapes (type_of g (Array es at))) at ∷ r) (in_row-list g es)
+
+-- the cells of an array are those of its first element so many times
+pub in-Literal : (g : Visible) (es : List Expr) (at : Place) →
+    in_expr g (Array es at) ≡ Spans (length es) at ∷ Holds (capped (length es * cells_in g.shapes (first_ty g es))) at ∷ in_exprs g es
+in-Literal g es at = in-Array g es at ∙ ap (λ t. Spans (length es) at ∷ Holds (cells_in g.shapes t) at ∷ in_exprs g es) (type-Array g es at)

@@ -6,6 +6,7 @@ use Rattle.zir_types.specs.Measures.{Measure, Spans, Holds, Sends, Calls, Splits
 use Rattle.zir_types.specs.Limits.{sooner, wrong_at, bad_length, too_large, too_wide, too_long, places}
 use Rattle.zir_limits.specs.declared.notes.Call.{Call}
 use Rattle.zir_limits.specs.declared.notes.Notes.{Notes}
+use Rattle.zir_limits.proofs.Order.{first_of-late}
 use Rattle.zir_limits.specs.Notes.{first_of, marks, calls_in, noted, target_of, measure_target}
 use Rattle.zir_limits.specs.declared.notes.Target.{Target as CallTarget}
 use Rattle.zir_limits.specs.declared.notes.Target.TheVariants.{Function, Instance}
@@ -112,6 +113,18 @@ splits_noted n k p o h =
 same_target : (t : CallTarget) → target_of (measure_target t) ≡ t
 same_target (Function k) = refl
 same_target (Instance k) = refl
+
+-- where something is wrong, noted last or first
+wrong_late : (o : Option Place) (ps : List Place) (wrong : Bool) (p : Place) → first_of (first_of o ps) (wrong_at wrong p ++ []) ≡ first_of o (wrong_at wrong p ++ ps)
+wrong_late o ps true p = first_of-late p o ps
+wrong_late o ps false p = refl
+
+-- a length and cells, noted last or first
+pub noted-late : (ms : List Measure) (k c : ℕ) (p : Place) (n : Notes) →
+    noted (Spans k p ∷ Holds c p ∷ []) (noted ms n) ≡ noted (Spans k p ∷ Holds c p ∷ ms) n
+noted-late ms k c p n = λ i. made (wrong_late n.first_length (places bad_length ms) (nat_eq k 0 || nat_lt 4096 k) p i)
+    (wrong_late n.first_cells (places too_large ms) (nat_lt 65536 c) p i) (first_of n.first_element (places too_wide ms))
+    (first_of n.first_stages (places too_long ms)) (append-nil (n.calls ++ calls_in ms) i)
 
 -- a call of this at a place
 abbrev call_of : Place → CallTarget → Call

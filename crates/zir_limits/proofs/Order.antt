@@ -98,3 +98,10 @@ first_of-some q (p ∷ ps) = first_of-some (sooner p (Some q)) ps ∙ ap Some (s
 pub first_of-none : (ps : List Place) → first_of None ps ≡ first_place ps
 first_of-none [] = refl
 first_of-none (p ∷ ps) = first_of-some p ps
+
+-- a place that is noted last might as well have been noted first
+pub first_of-late : (p : Place) (o : Option Place) (ps : List Place) → Some (sooner p (first_of o ps)) ≡ first_of (Some (sooner p o)) ps
+first_of-late p None ps = ap (λ r. Some (sooner p r)) (first_of-none ps) ∙ sym (first_of-some p ps)
+first_of-late p (Some q) ps =
+    ap (λ r. Some (sooner p r)) (first_of-some q ps) ∙ ap Some (sym (swap q p (first_place ps)))
+    ∙ ap (λ x. Some (sooner x (first_place ps))) (swap q p None) ∙ sym (first_of-some (sooner p (Some q)) ps)

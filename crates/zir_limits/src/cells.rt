@@ -1,7 +1,7 @@
 // The cells of types.
 
-ghost use Rattle.std.specs.Prelude.{◌≡◌};
-ghost use Rattle.zir_types.specs.Scope.{base_cells as cells_of_base, cells_in, lengths_of, array_cells};
+ghost use Rattle.std.specs.Prelude.{◌≡◌, ◌*◌};
+ghost use Rattle.zir_types.specs.Scope.{base_cells as cells_of_base, capped, cells_in, lengths_of, array_cells};
 ghost use Rattle.zir_types.specs.Known.{ty_of};
 
 use zir_tree::types::{Base, Dimension, Ty, TypeExpr};
@@ -22,13 +22,20 @@ pub fn base_cells(shapes: &[Shape], base: Base) -> u64
     }
 }
 
+/// The cells of so many elements of so many cells, with 65,537 for every greater number.
+pub fn times(count: u64, cells: u64) -> u64
+    ensures { result ≡ capped (count * cells) }
+{
+    count.saturating_mul(cells).min(65537)
+}
+
 /// The cells of arrays of these lengths over elements of so many cells, with 65,537 for every greater number.
 fn cells_of_arrays(lengths: &[u64], element: u64) -> u64
     ensures { result ≡ array_cells lengths.now element }
 {
     let mut cells = element;
     for i in (0..lengths.len()).rev() {
-        cells = lengths[i].saturating_mul(cells).min(65537);
+        cells = times(lengths[i], cells);
     }
     cells
 }
@@ -39,7 +46,7 @@ fn cells_of_written(dimensions: &[Dimension], element: u64) -> u64
 {
     let mut cells = element;
     for i in (0..dimensions.len()).rev() {
-        cells = dimensions[i].length.saturating_mul(cells).min(65537);
+        cells = times(dimensions[i].length, cells);
     }
     cells
 }

@@ -1,11 +1,14 @@
 // What the limits look at in expressions.
 
-ghost use Rattle.std.specs.Prelude.{◌≡◌, ◌∷◌, [], OnOk};
-ghost use Rattle.zir_types.specs.Measures.{in_expr, in_exprs, in_callee, in_initial, in_path, in_type};
+ghost use Rattle.std.specs.Prelude.{◌≡◌, ◌*◌, ◌∷◌, [], IfOk, OnOk};
+ghost use Rattle.zir_types.specs.Known.{type_of as type_known};
+ghost use Rattle.zir_types.specs.Scope.{capped, cells_in};
+ghost use Rattle.zir_types.specs.Measures.{Spans, Holds, in_expr, in_exprs, in_callee, in_initial, in_path, in_type};
 ghost use Rattle.zir_limits.specs.Facts.{told, sight};
+ghost use Rattle.zir_limits.specs.Lists.{array_ty};
 ghost use Rattle.zir_limits.specs.Notes.{noted};
 
-use crate::cells::{cells, written_cells};
+use crate::cells::{cells, times, written_cells};
 use crate::facts::Facts;
 use crate::known::type_of;
 use crate::notes::{Notes, Target};
@@ -32,6 +35,26 @@ fn note_callee(notes: &mut Notes, callee: Callee, at: Place) -> Result<(), Alloc
         Callee::Function(k) => notes.call(Target::Function(k), at),
         Callee::Struct(_) => Ok(()),
     }
+}
+
+/// The cells of the type of a typed expression.
+fn expr_cells(alloc: Global, facts: &Facts, scope: &Scope, e: &Expr) -> Result<u64, AllocError>
+    ensures { IfOk result (λ n.
+        n ≡ cells_in (told facts.now).shapes (type_known (sight (told facts.now) scope.now) e.now)) }
+{
+    let ty = type_of(alloc, facts, scope, e)?;
+    Ok(cells(facts.shapes(), &ty))
+}
+
+/// The length and the cells of an array of so many elements of so many cells. The array's cells are the result.
+fn note_literal(notes: &mut Notes, count: u64, element: u64, at: Place) -> u64
+    ensures noted { notes.new ≡ noted (Spans count at ∷ Holds (capped (count * element)) at ∷ []) notes.old }
+    ensures cells { result ≡ capped (count * element) }
+{
+    let cells = times(count, element);
+    notes.spans(count, at);
+    notes.holds(cells, at);
+    cells
 }
 
 /// An expression.
@@ -71,15 +94,61 @@ pub fn note_expr(
             note_exprs(alloc, facts, scope, notes, es.as_slice())
         }
         Expr::Array(es, at) => {
-            let ty = type_of(alloc, facts, scope, e)?;
-            notes.spans(es.len() as u64, *at);
-            notes.holds(cells(facts.shapes(), &ty), *at);
-            note_exprs(alloc, facts, scope, notes, es.as_slice())
+            note_array(alloc, facts, scope, notes, es.as_slice(), *at)?;
+            Ok(())
         }
         Expr::Convert(_, a, _) => note_expr(alloc, facts, scope, notes, a.get()),
         Expr::Complex(_, a, b, _) => {
             note_expr(alloc, facts, scope, notes, a.get())?;
             note_expr(alloc, facts, scope, notes, b.get())
+        }
+    }
+}
+
+/// An array of these expressions, which are noted first, and the cells of its type.
+#[cycle(expressions)]
+fn note_array(
+    alloc: Global,
+    facts: &Facts,
+    scope: &Scope,
+    notes: &mut Notes,
+    es: &[Expr],
+    at: Place,
+) -> Result<u64, AllocError>
+    ensures noted { OnOk result (
+        notes.new ≡ noted (in_expr (sight (told facts.now) scope.now) (Expr.Array es.now at)) notes.old) }
+    ensures cells { IfOk result (λ n.
+        n ≡ cells_in (told facts.now).shapes (array_ty (sight (told facts.now) scope.now) es.now)) }
+{
+    match es {
+        [] => Ok(note_literal(notes, 0, 0, at)),
+        [first, more @ ..] => {
+            let count = es.len() as u64;
+            let element = note_element(alloc, facts, scope, notes, first)?;
+            note_exprs(alloc, facts, scope, notes, more)?;
+            Ok(note_literal(notes, count, element, at))
+        }
+    }
+}
+
+/// An expression, and the cells of its type.
+#[cycle(expressions)]
+fn note_element(
+    alloc: Global,
+    facts: &Facts,
+    scope: &Scope,
+    notes: &mut Notes,
+    e: &Expr,
+) -> Result<u64, AllocError>
+    ensures noted { OnOk result (notes.new ≡ noted (in_expr (sight (told facts.now) scope.now) e.now) notes.old) }
+    ensures cells { IfOk result (λ n.
+        n ≡ cells_in (told facts.now).shapes (type_known (sight (told facts.now) scope.now) e.now)) }
+{
+    match e {
+        Expr::Array(es, at) => note_array(alloc, facts, scope, notes, es.as_slice(), *at),
+        _ => {
+            note_expr(alloc, facts, scope, notes, e)?;
+            expr_cells(alloc, facts, scope, e)
         }
     }
 }

@@ -7,7 +7,7 @@ ghost use Rattle.zir_types.specs.Typing.{called_at};
 ghost use Rattle.zir_types.specs.Known.{ty_of as ty_written, or_unit, result_in, signature_of, result_of as base_of_result, element_of as element_in};
 ghost use Rattle.zir_types.specs.Known.{part_ty, called_ty, type_of as type_known, function_result};
 ghost use Rattle.zir_limits.specs.Facts.{told, sight};
-ghost use Rattle.zir_limits.specs.Lists.{array_ty};
+ghost use Rattle.zir_limits.specs.Lists.{array_ty, nested};
 
 use crate::facts::Facts;
 use crate::scope::Scope;
@@ -60,17 +60,25 @@ fn result_type(alloc: Global, written: &Option<TypeExpr>) -> Result<Ty, AllocErr
     }
 }
 
+/// A type in arrays of the outer lengths.
+fn nest(outer: Items<u64>, ty: Ty) -> Result<Ty, AllocError>
+    ensures { IfOk result (λ t. t ≡ nested outer ty) }
+{
+    let mut lengths = outer;
+    lengths.append(ty.lengths)?;
+    Ok(Ty {
+        lengths,
+        base: ty.base,
+    })
+}
+
 /// An array of so many elements of a type.
 pub fn array_of(alloc: Global, count: u64, element: Ty) -> Result<Ty, AllocError>
     ensures { IfOk result (λ t. t ≡ arr count element) }
 {
     let mut lengths = Items::new(alloc);
     lengths.push(count)?;
-    lengths.append(element.lengths)?;
-    Ok(Ty {
-        lengths,
-        base: element.base,
-    })
+    nest(lengths, element)
 }
 
 /// The type of an array's elements.
@@ -207,23 +215,36 @@ pub fn type_of(alloc: Global, facts: &Facts, scope: &Scope, e: &Expr) -> Result<
             part_type(alloc, facts.shapes(), &ty, name.as_slice())
         }
         Expr::Call(_, callee, _) => called_type(alloc, facts, *callee),
-        Expr::Array(es, _) => array_type(alloc, facts, scope, es.as_slice()),
+        Expr::Array(es, _) => { array_type(alloc, facts, scope, Items::new(alloc), es.as_slice()) }
         Expr::Convert(base, _, _) => Ok(scalar(alloc, *base)),
         Expr::Complex(base, _, _, _) => Ok(scalar(alloc, *base)),
     }
 }
 
-/// The type of an array of these expressions, that of the first for all.
+/// The type of an array of these expressions, that of the first for all, in arrays of the outer lengths.
 #[cycle(types)]
-fn array_type(alloc: Global, facts: &Facts, scope: &Scope, es: &[Expr]) -> Result<Ty, AllocError>
-    ensures { IfOk result (λ t. t ≡ array_ty (sight (told facts.now) scope.now) es.now) }
+fn array_type(
+    alloc: Global,
+    facts: &Facts,
+    scope: &Scope,
+    outer: Items<u64>,
+    es: &[Expr],
+) -> Result<Ty, AllocError>
+    ensures { IfOk result (λ t. t ≡ nested outer (array_ty (sight (told facts.now) scope.now) es.now)) }
 {
-    let count = es.len() as u64;
+    let mut lengths = outer;
+    lengths.push(es.len() as u64)?;
     match es {
-        [] => array_of(alloc, count, scalar(alloc, Base::Unit)),
-        [e, ..] => {
-            let element = type_of(alloc, facts, scope, e)?;
-            array_of(alloc, count, element)
-        }
+        [] => Ok(Ty {
+            lengths,
+            base: Base::Unit,
+        }),
+        [e, ..] => match e {
+            Expr::Array(inner, _) => array_type(alloc, facts, scope, lengths, inner.as_slice()),
+            _ => {
+                let element = type_of(alloc, facts, scope, e)?;
+                nest(lengths, element)
+            }
+        },
     }
 }

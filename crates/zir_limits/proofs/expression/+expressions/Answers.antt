@@ -1,14 +1,14 @@
-use Rattle.std.proofs.Common.{◌≡◌, ◌∙◌, ap, sym, List, [], ◌∷◌, ◌++◌, ◌+◌, drop}
-use Rattle.zir_tree.specs.declared.place.Place.{Place}
+use Rattle.std.proofs.Common.{◌≡◌, ◌∙◌, ap, sym, List, [], ◌∷◌, ◌++◌, ◌+◌, ◌-◌, ◌*◌, ℕ, drop, take, length}
 use Rattle.zir_tree.specs.declared.expr.Expr.{Expr, Array}
-use Rattle.zir_types.specs.Scope.{Visible, cells_in}
+use Rattle.zir_types.specs.Scope.{Visible, capped, cells_in}
 use Rattle.zir_types.specs.Known.{type_of}
 use Rattle.zir_types.specs.Measures.{Measure, Spans, Holds, in_expr, in_exprs, in_callee}
 use Rattle.zir_limits.specs.Facts.{told, sight}
+use Rattle.zir_limits.specs.Lists.{array_ty, first_ty}
 use Rattle.zir_limits.specs.Notes.{noted}
-use Rattle.zir_limits.proofs.Noted.{carried, carried_two, noted_two, noted_next, noted-none}
-use Rattle.zir_limits.proofs.Rows.{at_place}
-use Rattle.zir_limits.proofs.ExpressionEquations.{in-Unary, in-Binary, in-Index, in-Slice, in-Part, in-Convert, in-Complex, in-Call, in-Array}
+use Rattle.zir_limits.proofs.Noted.{carried, carried_two, noted_two, noted_next, noted-none, noted-late}
+use Rattle.zir_limits.proofs.Rows.{at_place, no_more, first-behind, first_type, same_answer}
+use Rattle.zir_limits.proofs.ExpressionEquations.{in-Unary, in-Binary, in-Index, in-Slice, in-Part, in-Convert, in-Complex, in-Call, in-Literal, type-Array}
 use Rattle.zir_limits.proofs.expression.+expressions.Goals as goal
 
 pub note_expr-returns-in-Unit : goal.note_expr-returns-in-Unit
@@ -105,22 +105,42 @@ note_expr-returns-in_ok-note_callee-in-Call t c =
     ∙ ap (λ x. in_callee c.in-Call.callee c.in-Call.f.at ++ in_exprs g x) (sym c.as_slice.ensures))
     c.in_ok-note_callee-in-Call.ensures c.note_exprs.ensures
 
-pub note_expr-returns-in_ok-ty-in-Array : goal.note_expr-returns-in_ok-ty-in-Array
-note_expr-returns-in_ok-ty-in-Array t c =
+pub note_expr-returns-in_ok-note_array-in-Array : goal.note_expr-returns-in_ok-note_array-in-Array
+note_expr-returns-in_ok-note_array-in-Array t c =
     let g : Visible = sight (told c.args.facts.now) c.args.scope.now in
-    let es : List Expr = c.in-Array.es in
-    let at : Place = c.in-Array.at in
-    let k = c.cells.ensures ∙ ap (λ s. cells_in s c.in_ok-ty-in-Array.ty) c.shapes.ensures ∙ ap (cells_in g.shapes) c.in_ok-ty-in-Array.ensures
-    ∙ ap (λ x. cells_in g.shapes (type_of g x)) c.in-Array.is in
-    let xs : List Measure = Spans c.len.result at ∷ [] in
-    let ys : List Measure = Holds c.cells.result at ∷ [] in
-    carried_two c.note_exprs-in-Array.result (in_expr g c.args.e.now) (xs ++ ys) (in_exprs g c.as_slice-in-Array.result.now)
-    c.args.notes.now c.holds.new.self c.note_exprs-in-Array.new.notes
-    (ap (in_expr g) c.in-Array.is ∙ in-Array g es at
-    ∙ ap (λ l. (Spans l at ∷ []) ++ (Holds (cells_in g.shapes (type_of g (Array es at))) at ∷ []) ++ in_exprs g es) (sym c.len.ensures)
-    ∙ ap (λ l. xs ++ (Holds l at ∷ []) ++ in_exprs g es) (sym k) ∙ ap (λ x. xs ++ ys ++ in_exprs g x) (sym c.as_slice-in-Array.ensures))
-    (noted_two xs ys c.args.notes.now c.spans-in-Array.new.self c.holds.new.self c.spans-in-Array.ensures c.holds.ensures)
-    c.note_exprs-in-Array.ensures
+    c.in_ok-note_array-in-Array.ensures.noted ∙ ap (λ l. noted (in_expr g (Array l c.in-Array.at)) c.args.notes.now) c.as_slice-in-Array.ensures
+    ∙ ap (λ x. noted (in_expr g x) c.args.notes.now) (sym c.in-Array.is)
+
+pub note_array-returns-in-empty-clause-noted : goal.note_array-returns-in-empty-clause-noted
+note_array-returns-in-empty-clause-noted t c =
+    let g : Visible = sight (told c.args.facts.now) c.args.scope.now in
+    c.note_literal.ensures.noted ∙ ap (λ ms. noted ms c.args.notes.now) (sym (in-Literal g [] c.args.at))
+    ∙ ap (λ l. noted (in_expr g (Array l c.args.at)) c.args.notes.now) (sym (no_more c.args.es.now c.in-empty.len_below))
+
+pub note_array-returns-in_ok-note_exprs-in-len1-up-clause-noted : goal.note_array-returns-in_ok-note_exprs-in-len1-up-clause-noted
+note_array-returns-in_ok-note_exprs-in-len1-up-clause-noted t c =
+    let g : Visible = sight (told c.args.facts.now) c.args.scope.now in
+    let es : List Expr = c.args.es.now in
+    let e : Expr = c.first-item.result in
+    let more : List Expr = take (length es - 1) (drop 1 es) in
+    let k : ℕ = length es in
+    let cells : ℕ = c.in_ok-element-in-len1-up.element in
+    let known : cells ≡ cells_in g.shapes (first_ty g es) = c.in_ok-element-in-len1-up.ensures.cells
+    ∙ ap (cells_in g.shapes) (first_type g es e c.in-len1-up.len_at_least c.first-item.is) in
+    let parts : c.note_exprs.new.notes ≡ noted (in_exprs g es) c.args.notes.now =
+    noted_two (in_expr g e) (in_exprs g more) c.args.notes.now c.note_element.new.notes c.note_exprs.new.notes
+    c.in_ok-element-in-len1-up.ensures.noted c.in_ok-note_exprs-in-len1-up.ensures
+    ∙ ap (λ l. noted (in_exprs g l) c.args.notes.now) (first-behind es e c.in-len1-up.len_at_least c.first-item.is) in
+    c.note_literal-in-len1-up.ensures.noted ∙ ap (noted (Spans k c.args.at ∷ Holds (capped (k * cells)) c.args.at ∷ [])) parts
+    ∙ noted-late (in_exprs g es) k (capped (k * cells)) c.args.at c.args.notes.now
+    ∙ ap (λ n. noted (Spans k c.args.at ∷ Holds (capped (k * n)) c.args.at ∷ in_exprs g es) c.args.notes.now) known
+    ∙ ap (λ ms. noted ms c.args.notes.now) (sym (in-Literal g es c.args.at))
+
+pub note_element-returns-in-Array-clause-cells : goal.note_element-returns-in-Array-clause-cells
+note_element-returns-in-Array-clause-cells t c =
+    let g : Visible = sight (told c.args.facts.now) c.args.scope.now in
+    same_answer c.note_array.result _ _ (ap (λ l. cells_in g.shapes (array_ty g l)) c.as_slice.ensures
+    ∙ ap (cells_in g.shapes) (sym (type-Array g c.in-Array.es c.in-Array.at) ∙ ap (type_of g) (sym c.in-Array.is))) c.note_array.ensures.cells
 
 pub note_exprs-loop-e-preserved : goal.note_exprs-loop-e-preserved
 note_exprs-loop-e-preserved t c =
