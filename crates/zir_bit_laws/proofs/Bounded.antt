@@ -115,7 +115,7 @@ bounded-pull : (ids : List ℕ) (d : ℕ) (l : Proc) (n t : ℕ) (s : State) (ne
     ((v : Val) (p : Point) (l' : Proc) → Bounded n p.ticks l' → Bounded n (p.ticks + s2.ticks) (next v p l')) → Bounded n (t + s2.ticks) (pull ids d s next s2 l)
 bounded-pull ids d (Gives o l) n t s next s2 e h k =
     bounded-earlier (next o.value o.at l) n (o.at.ticks + s2.ticks) (t + s2.ticks) (omega arith) (k o.value o.at l h.2)
-bounded-pull ids d (Ends x s1) n t s next s2 e h k = 
+bounded-pull ids d (Ends x s1) n t s next s2 e h k =
     bounded-end x n t n (t + s2.ticks) s1 s (over ids (point s1) (waiting d x (point s2))) h (λ le. omega arith) e
 bounded-pull ids d (Needs s1 g) n t s next s2 e h k =
     let p = over ids (point s1) (point s2) in
