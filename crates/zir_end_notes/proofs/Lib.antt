@@ -1,1 +1,3 @@
+pub mod Commas
+pub mod Frames
 pub mod Growing

@@ -1,2 +1,3 @@
 pub mod Endings
-pub mod Scalars
+pub mod Parts
+pub mod Pieces

@@ -1,86 +1,66 @@
 // The words and numbers of the notes.
 
-ghost use Rattle.std.specs.Prelude.{◌≡◌, ◌+◌, ◌≤◌, ◌++◌, codes, decimal, length, pos, slice_index_or};
+ghost use Rattle.std.specs.Prelude.{◌≡◌, ◌+◌, ◌≤◌, ◌++◌, codes, decimal, length};
 ghost use Rattle.std.specs.Fmt.{signed_decimal};
-ghost use Rattle.zir_end_notes.specs.Scalars.{is_one, pair_words, scalar_note, scalar_words};
+ghost use Rattle.zir_end_notes.specs.Parts.{pair_words};
 ghost use Rattle.arrayvec.specs.ArrayString.{array_string_len};
 ghost use Rattle.zir_meaning.specs.Notes.{bit_text, counts_of, input_note, malformed_note, number_line, place_text, spent_note, truth_text};
 
 use arrayvec::ArrayString;
 use itoa::Buffer;
 use zir_tree::place::Place;
-use zir_tree::types::Base;
 
-/// Room for the words and numbers of a note, of which the longest has 114 bytes.
+/// Room for the words and numbers of a note, of which the longest has 100 bytes.
 const ROOM: usize = 128;
 
 pub type Text = ArrayString<ROOM>;
 
-/// The note on a run that ended with a value of a type that is no array and no struct.
-pub fn scalar_text(base: Base, cells: &[i64], taken: u64, written: u64) -> Text
-    ensures { result.bytes ≡ scalar_note base cells.now taken written }
+/// What stands behind the value in the note on a run that ended with one.
+pub fn counts_text(taken: u64, written: u64) -> Text
+    ensures { result.bytes ≡ codes "\n" ++ counts_of taken written }
 {
     let mut text = Text::new();
-    text.push_str("ended ");
-    push_scalar(&mut text, base, cells);
     text.push_str("\n");
     push_counts(&mut text, taken, written);
     text
 }
 
-/// Adds a value of a type that is no array and no struct, from its cells.
-fn push_scalar(text: &mut Text, base: Base, cells: &[i64])
-    requires { array_string_len text.old + 43 ≤ ROOM }
-    ensures bytes { text.new.bytes ≡ text.old.bytes ++ scalar_words base cells.now }
-    ensures short { array_string_len text.new ≤ array_string_len text.old + 43 }
-{
-    let first = cell(cells, 0);
-    match base {
-        Base::Unit | Base::Struct(_) => text.push_str("()"),
-        Base::Bit => text.push_str(bit_words(first)),
-        Base::Bool => text.push_str(truth_words(first)),
-        Base::Complex16 | Base::Complex32 => push_pair(text, first, cell(cells, 1)),
-        _ => push_signed(text, first),
-    }
-}
-
-/// The cell at a place, and 0 where there is none.
-fn cell(cells: &[i64], place: usize) -> i64
-    ensures { result ≡ slice_index_or cells.now place (pos 0) }
-{
-    match cells.get(place) {
-        Some(found) => *found,
-        None => 0,
-    }
-}
-
 /// A bit as a program spells it.
-fn bit_words(cell: i64) -> &'static str
-    ensures words { result.now ≡ bit_text (is_one cell) }
-    ensures short { length result.now ≤ 2 }
+pub fn bit_words(bit: bool) -> &'static str
+    ensures { result.now ≡ bit_text bit }
 {
-    match cell {
-        0 => "'0",
-        _ => "'1",
-    }
+    if bit { "'1" } else { "'0" }
 }
 
 /// A truth value as a program spells it.
-fn truth_words(cell: i64) -> &'static str
-    ensures words { result.now ≡ truth_text (is_one cell) }
-    ensures short { length result.now ≤ 5 }
+pub fn truth_words(truth: bool) -> &'static str
+    ensures { result.now ≡ truth_text truth }
 {
-    match cell {
-        0 => "false",
-        _ => "true",
-    }
+    if truth { "true" } else { "false" }
+}
+
+/// A whole number.
+pub fn signed_text(number: i64) -> Text
+    ensures { result.bytes ≡ signed_decimal number }
+{
+    let mut text = Text::new();
+    push_signed(&mut text, number);
+    text
+}
+
+/// A complex number.
+pub fn pair_text(re: i32, im: i32) -> Text
+    ensures { result.bytes ≡ pair_words re im }
+{
+    let mut text = Text::new();
+    push_pair(&mut text, i64::from(re), i64::from(im));
+    text
 }
 
 /// Adds a complex number.
 fn push_pair(text: &mut Text, re: i64, im: i64)
     requires { array_string_len text.old + 43 ≤ ROOM }
-    ensures bytes { text.new.bytes ≡ text.old.bytes ++ pair_words re im }
-    ensures short { array_string_len text.new ≤ array_string_len text.old + 43 }
+    ensures { text.new.bytes ≡ text.old.bytes ++ pair_words re im }
 {
     text.push_str("(");
     push_signed(text, re);

@@ -1,24 +1,22 @@
 use Rattle.std.proofs.Common.{◌≡◌, sym, ap, ◌∙◌, subst}
 use Rattle.zir_outside.specs.Sinks.{Grew, GrewPart}
-use Rattle.zir_meaning.specs.Notes.{input_note, spent_note, malformed_note, fault_note, trap_note}
+use Rattle.zir_meaning.specs.Notes.{ended_note, input_note, spent_note, malformed_note, fault_note, trap_note}
 use Rattle.zir_end_notes.specs.Endings.{end_note}
-use Rattle.zir_end_notes.specs.Scalars.{scalar_note}
 use Rattle.zir_end_notes.proofs.Growing.{from_ok, from_error}
 use Rattle.zir_end_notes.proofs.write_end.Goals as goal
 
-pub returns-in-Scalar-clause-failed : goal.returns-in-Scalar-clause-failed
-returns-in-Scalar-clause-failed g c =
+pub returns-in-Value-clause-failed : goal.returns-in-Value-clause-failed
+returns-in-Value-clause-failed g c =
     let s = g.N.Sink.stands_for in
-    let text : c.as_bytes.result.now ≡ scalar_note c.in-Scalar.base c.in-Scalar.cells.now c.args.taken c.args.written = cc in
-    let note : scalar_note c.in-Scalar.base c.in-Scalar.cells.now c.args.taken c.args.written ≡ end_note c.args.end.now c.args.ticks c.args.taken c.args.written = ap (λ e. end_note e c.args.ticks c.args.taken c.args.written) (sym c.in-Scalar.is) in
-    from_error c.put.result (subst (λ t. GrewPart t (s c.args.notes.now) (s c.put.new.self)) (text ∙ note)) c.put.ensures.failed
+    let note : ended_note c.in-Value.structs.now c.in-Value.ty.now c.in-Value.value.now c.args.taken c.args.written ≡ end_note c.args.end.now c.args.ticks c.args.taken c.args.written = ap (λ e. end_note e c.args.ticks c.args.taken c.args.written) (sym c.in-Value.is) in
+    from_error c.write_value.result (subst (λ t. GrewPart t (s c.args.notes.now) (s c.write_value.new.notes)) note) c.write_value.ensures.failed
 
 pub returns-in-Input-clause-failed : goal.returns-in-Input-clause-failed
 returns-in-Input-clause-failed g c =
     let s = g.N.Sink.stands_for in
-    let text : c.as_bytes-in-Input.result.now ≡ input_note c.args.taken c.args.written = cc in
+    let text : c.as_bytes.result.now ≡ input_note c.args.taken c.args.written = cc in
     let note : input_note c.args.taken c.args.written ≡ end_note c.args.end.now c.args.ticks c.args.taken c.args.written = ap (λ e. end_note e c.args.ticks c.args.taken c.args.written) (sym c.in-Input.is) in
-    from_error c.put-in-Input.result (subst (λ t. GrewPart t (s c.args.notes.now) (s c.put-in-Input.new.self)) (text ∙ note)) c.put-in-Input.ensures.failed
+    from_error c.put.result (subst (λ t. GrewPart t (s c.args.notes.now) (s c.put.new.self)) (text ∙ note)) c.put.ensures.failed
 
 pub returns-in-Trap-clause-failed : goal.returns-in-Trap-clause-failed
 returns-in-Trap-clause-failed g c =
