@@ -10,3 +10,5 @@ pub mod Program
 pub mod Simulation
 pub mod Statements
 pub mod Stores
+pub mod TypesFound
+pub mod Values

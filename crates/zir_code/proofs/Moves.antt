@@ -22,7 +22,7 @@ use Rattle.zir_code.proofs.Cells.{cell, at_moved, at_same}
 use Rattle.zir_code.proofs.Kept.{low_place, Changed, changed_cell, changed_both, cell_written, kept_changed}
 
 -- the index after another that the memory has
-low_after : (i : ℕ) → i + 1 < 2 ^ 64 → after i ≡ i + 1
+pub low_after : (i : ℕ) → i + 1 < 2 ^ 64 → after i ≡ i + 1
 low_after i h = omega arith
 
 -- so many cells are those that stood from another index on
@@ -104,10 +104,24 @@ settled_by top base d n from g t v m m1 m2 s s1 apart le room k a r =
       kept = kept_changed top base d (base + d) (base + d + layout_of g.structs t) g m m1 m2 s s1 apart (omega arith) k r.changed;
     }
 
--- where a value of so many cells stands that the code of an expression leaves
-pub record Placed (top base d size : ℕ) (spot : Spot) : Type 0 where
+-- where a value of so many cells stands that the code of an expression leaves: among the variables, which stand before base + d, or in the cells
+-- that the code was free to use
+pub record Placed (top base d free size : ℕ) (spot : Spot) : Type 0 where
   pub after : top ≤ place_of base spot
-  pub before : (place_of base spot + size ≤ base + d) ⊎ (place_of base spot ≡ base + d)
+  pub before : (place_of base spot + size ≤ base + d) ⊎ (place_of base spot ≡ base + free)
+
+-- later code leaves it there
+pub stands_kept : (top base d free d' size : ℕ) (g : Scope) (t : Ty) (v : Val) (spot : Spot) (m m' : Memory) (s s' : State) → d ≤ free → free + size ≤ d' →
+    size ≡ layout_of g.structs t → Placed top base d free size spot → Kept top base d' g m m' s s' → StandsAt g.structs t v m (place_of base spot) →
+    StandsAt g.structs t v m' (place_of base spot)
+stands_kept top base d free d' size g t v spot m m' s s' low le e p k a =
+    let n : length (cells_of v) ≡ size = sizes-fit g.structs t v a.shape ∙ sym e in
+    let after = p.after in
+    let end : place_of base spot + length (cells_of v) ≤ base + d' = elim p.before [ inl l ↦ omega arith | inr l ↦ omega arith ] in
+    record {
+      shape = a.shape;
+      cells = at_same m.cells m'.cells top (base + d') (place_of base spot) (cells_of v) k.size k.same after end a.cells;
+    }
 
 -- what code does that ends
 pub record Goes (P : Memory → Type 0) (q : Ran) : Type 0 where
@@ -133,7 +147,7 @@ moving_settles top base d n g t v spot m m1 s s1 apart le room small k a b =
 
 settles_if : (b : Bool) (top base d n o : ℕ) (g : Scope) (t : Ty) (v : Val) (m m1 : Memory) (s s1 : State) → nat_eq o d ≡ b → top ≤ base →
     d + layout_of g.structs t ≤ n → base + n ≤ length m.cells → length m.cells < 2 ^ 63 → Kept top base d g m m1 s s1 →
-    StandsAt g.structs t v m1 (from_base base o) → Placed top base d (layout_of g.structs t) (Local o) →
+    StandsAt g.structs t v m1 (from_base base o) → Placed top base d d (layout_of g.structs t) (Local o) →
     Goes (Settled top base d g t v m s s1) (go_all (pick b [] (moving (Local d) (Local o) (layout_of g.structs t))) base m1)
 settles_if true top base d n o g t v m m1 s s1 q apart le room small k a p =
     let z = k.size in
@@ -160,7 +174,7 @@ settles_if false top base d n o g t v m m1 s s1 q apart le room small k a p = el
 -- a value that stands in the body is moved to the first free cells, where it does not stand there
 pub settles : (top base d n : ℕ) (g : Scope) (t : Ty) (v : Val) (spot : Spot) (m m1 : Memory) (s s1 : State) → top ≤ base →
     d + layout_of g.structs t ≤ n → base + n ≤ length m.cells → length m.cells < 2 ^ 63 → Kept top base d g m m1 s s1 →
-    StandsAt g.structs t v m1 (place_of base spot) → Placed top base d (layout_of g.structs t) spot →
+    StandsAt g.structs t v m1 (place_of base spot) → Placed top base d d (layout_of g.structs t) spot →
     Goes (Settled top base d g t v m s s1) (go_all (settling spot d (layout_of g.structs t)) base m1)
 settles top base d n g t v (Top o) m m1 s s1 apart le room small k a p = elim p.before [
   | inl l ↦ moving_settles top base d n g t v (Top o) m m1 s s1 apart le room small k a l
