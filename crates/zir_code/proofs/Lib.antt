@@ -1,10 +1,13 @@
 pub mod Agreeing
 pub mod Arguments
 pub mod Bodies
+pub mod Calm
 pub mod Calls
 pub mod Cells
+pub mod Complexes
 pub mod Kept
 pub mod Moves
+pub mod Operands
 pub mod Operating
 pub mod Program
 pub mod Simulation
