@@ -9,7 +9,9 @@ pub mod Kept
 pub mod Moves
 pub mod Operands
 pub mod Operating
+pub mod Places
 pub mod Program
+pub mod Room
 pub mod Simulation
 pub mod Statements
 pub mod Stores
