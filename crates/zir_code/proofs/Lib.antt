@@ -6,9 +6,11 @@ pub mod Calls
 pub mod Cells
 pub mod Complexes
 pub mod Kept
+pub mod Locating
 pub mod Moves
 pub mod Operands
 pub mod Operating
+pub mod Paths
 pub mod Places
 pub mod Program
 pub mod Room
