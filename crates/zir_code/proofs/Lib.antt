@@ -14,6 +14,7 @@ pub mod Paths
 pub mod Places
 pub mod Program
 pub mod Room
+pub mod Rows
 pub mod Simulation
 pub mod Statements
 pub mod Stores
