@@ -5,6 +5,7 @@ pub mod Calm
 pub mod Calls
 pub mod Cells
 pub mod Complexes
+pub mod Indexing
 pub mod Kept
 pub mod Locating
 pub mod Moves
@@ -13,6 +14,7 @@ pub mod Operating
 pub mod Paths
 pub mod Places
 pub mod Program
+pub mod Reading
 pub mod Room
 pub mod Rows
 pub mod Simulation
