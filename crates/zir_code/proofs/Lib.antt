@@ -5,6 +5,7 @@ pub mod Calm
 pub mod Calls
 pub mod Cells
 pub mod Complexes
+pub mod Gathering
 pub mod Indexing
 pub mod Kept
 pub mod Locating
