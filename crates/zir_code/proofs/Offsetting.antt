@@ -1,6 +1,6 @@
 -- How the offset of an element is found, where its index is inside, and how one outside stops.
-use Rattle.std.specs.Prelude.{ℕ, ◌+◌, ◌*◌, ◌<◌, ◌≤◌, ◌^◌, ◌%◌, ℤ, pos, negsuc, ◌+ℤ◌, ◌*ℤ◌, Bool, true, false, Result, Ok, Err, nat_lt, ◌≡◌, refl}
-use Rattle.std.proofs.Common.{ap, ◌∙◌, sym, arith, lt-ltb}
+use Rattle.std.specs.Prelude.{ℕ, zero, suc, ◌+◌, ◌*◌, ◌<◌, ◌≤◌, ◌^◌, ◌%◌, ℤ, pos, negsuc, ◌+ℤ◌, ◌*ℤ◌, Bool, true, false, Result, Ok, Err, nat_lt, ◌≡◌, ◌⊎◌, refl}
+use Rattle.std.proofs.Common.{ap, ◌∙◌, arith, inl, inr}
 use Rattle.std.specs.Int.{int_wrap, cast_unsigned}
 use Rattle.std.proofs.lemmas.Int.{ints, int_wrap_fits}
 use Rattle.std.proofs.lemmas.Bool.Decides.{nat_tests}
@@ -9,6 +9,13 @@ use Rattle.zir_expr.specs.declared.frame.Spot.{Spot}
 use Rattle.zir_expr.specs.declared.steps.Elements.{Elements}
 use Rattle.zir_expr.specs.Memory.{place_of, address_of}
 use Rattle.zir_expr.specs.Running.{offset_if, offset_of}
+
+-- one number is less than another, or not
+pub below_or_not : (a b : ℕ) → (a < b) ⊎ (b ≤ a)
+below_or_not zero zero = inr (omega arith)
+below_or_not zero (suc b) = inl (omega arith)
+below_or_not (suc a) zero = inr (omega arith)
+below_or_not (suc a) (suc b) = elim (below_or_not a b) [ inl h ↦ inl (omega arith) | inr h ↦ inr (omega arith) ]
 
 -- a small number is its own 64 bits
 pub small_wrap : (n : ℕ) → n < 2 ^ 63 → int_wrap w64 (pos n) ≡ pos n

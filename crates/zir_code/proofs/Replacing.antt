@@ -35,7 +35,7 @@ append_none [] = refl
 append_none (x ∷ xs) = ap (λ ys. x ∷ ys) (append_none xs)
 
 -- a part of a value ends where the value does
-stands_room : (ds : List StructDef) (t u : Ty) (old v : Val) (k : ℕ) → Shaped ds t old → Stands ds u v (cells_of old) k → k + layout_of ds u ≤ layout_of ds t
+pub stands_room : (ds : List StructDef) (t u : Ty) (old v : Val) (k : ℕ) → Shaped ds t old → Stands ds u v (cells_of old) k → k + layout_of ds u ≤ layout_of ds t
 stands_room ds t u old v k h s =
     let a = length-append s.before (cells_of v ++ s.after) in
     let b = length-append (cells_of v) s.after in
@@ -192,3 +192,7 @@ base_part_is ds (StructTy j) i t f = ap type_or_unit f
 -- the type of a part that fits
 pub part_is : (ds : List StructDef) (ty : Ty) (i : ℕ) (t : Ty) → PartFits ds ty i t → part_type ds ty i ≡ t
 part_is ds ty i t f = base_part_is ds ty.base i t f.1
+
+-- a part has no more cells than the whole
+pub part_room : (ds : List StructDef) (ty : Ty) (i : ℕ) (t : Ty) (v : Val) → Shaped ds ty v → PartFits ds ty i t → layout_of ds t ≤ layout_of ds ty
+part_room ds ty i t v h f = (let w = (writes_part ds ty t t i 0 v [] h f (writes_all ds t)).room in omega arith)
