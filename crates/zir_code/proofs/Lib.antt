@@ -1,10 +1,14 @@
+pub mod Agreeing
 pub mod Arguments
 pub mod Bodies
 pub mod Calls
-pub mod Forms
+pub mod Cells
 pub mod Kept
+pub mod Moves
 pub mod Operating
 pub mod Program
 pub mod Simulation
 pub mod Statements
 pub mod Stores
+pub mod TypesFound
+pub mod Values
