@@ -12,10 +12,12 @@ use Rattle.zir_expr.specs.Memory.{Ran, Done, Trapped, Out, then_run, place_of}
 use Rattle.zir_expr.specs.Memory.Frames.{Memory}
 use Rattle.zir_code.specs.declared.scope.Holder.{Holder}
 use Rattle.zir_code.specs.Scopes.{Scope}
-use Rattle.zir_code.specs.Holding.{Hold, Holds, Kept, StandsAt, Agrees}
+use Rattle.zir_code.specs.Holding.{Hold, Holds, Kept, StandsAt, Ends, Agrees}
 use Rattle.zir_code.specs.Statements.{scope_after, free_after, scope_after_row}
 use Rattle.zir_code.specs.Fine.{Went, Stopped, AgreesStmt}
 use Rattle.zir_code.specs.Calls.{Calls}
+use Rattle.zir_code.proofs.Kept.{kept_holds}
+use Rattle.zir_code.proofs.Agreeing.{ends_then}
 
 -- two memories whose cells between the top variables and those of the body are the same
 pub record Alike (top base : ℕ) (m m' : Memory) : Type 0 where
@@ -43,17 +45,25 @@ stopped_from top base structs tops m m1 m' s' a w =
 pub stopped_kept : (top base d : ℕ) (g : Scope) (m m' : Memory) (s s' : State) → Kept top base d g m m' s s' → Stopped top base g.structs g.tops m m' s'
 stopped_kept top base d g m m' s s' k = record { tops_held = k.tops; same = λ i b c. k.same i b (omega arith); size = k.size; used = k.used; limit = k.limit }
 
+-- what holds where less is said
+pub ends_weaker : (P : Val → State → Memory → Type 0) (Q : State → Memory → Type 0) (P' : Val → State → Memory → Type 0) (Q' : State → Memory → Type 0) (r : Eval) (q : Ran) →
+    ((v : Val) (s : State) (m : Memory) → P v s m → P' v s m) → ((s : State) (m : Memory) → Q s m → Q' s m) → Ends P Q r q → Ends P' Q' r q
+ends_weaker P Q P' Q' (Got v s) (Done m) f h a = f v s m a
+ends_weaker P Q P' Q' (Got v s) (Trapped u m) f h a = absurd a
+ends_weaker P Q P' Q' (Got v s) Out f h a = absurd a
+ends_weaker P Q P' Q' (Traps u s) (Done m) f h a = absurd a
+ends_weaker P Q P' Q' (Traps u s) (Trapped w m) f h a = (a.0, h s m a.1)
+ends_weaker P Q P' Q' (Traps u s) Out f h a = absurd a
+ends_weaker P Q P' Q' RunsOut (Done m) f h a = absurd a
+ends_weaker P Q P' Q' RunsOut (Trapped w m) f h a = absurd a
+ends_weaker P Q P' Q' RunsOut Out f h a = tt
+
 -- the same from an earlier memory
 pub from_alike : (top base d n : ℕ) (g : Scope) (m m1 : Memory) (r : Eval) (q : Ran) → Alike top base m m1 → AgreesStmt top base d n g m1 r q → AgreesStmt top base d n g m r q
-from_alike top base d n g m m1 (Got v s') (Done m') a w = record { holds = w.holds; same = λ i b c. w.same i b c ∙ a.same i b c; size = w.size ∙ a.size }
-from_alike top base d n g m m1 (Got v s') (Trapped u m') a w = absurd w
-from_alike top base d n g m m1 (Got v s') Out a w = absurd w
-from_alike top base d n g m m1 (Traps u s') (Done m') a w = absurd w
-from_alike top base d n g m m1 (Traps u s') (Trapped t m') a w = (w.0, stopped_from top base g.structs g.tops m m1 m' s' a w.1)
-from_alike top base d n g m m1 (Traps u s') Out a w = absurd w
-from_alike top base d n g m m1 RunsOut (Done m') a w = absurd w
-from_alike top base d n g m m1 RunsOut (Trapped t m') a w = absurd w
-from_alike top base d n g m m1 RunsOut Out a w = tt
+from_alike top base d n g m m1 r q a w =
+    ends_weaker (λ v s' m'. Went top base d n g m1 m' s') (λ s' m'. Stopped top base g.structs g.tops m1 m' s') (λ v s' m'. Went top base d n g m m' s') (λ s' m'. Stopped top base g.structs g.tops m m' s') r q
+    (λ v s' m' x. record { holds = x.holds; same = λ i b c. x.same i b c ∙ a.same i b c; size = x.size ∙ a.size })
+    (λ s' m' x. stopped_from top base g.structs g.tops m m1 m' s' a x) w
 
 -- a scope has the structs and the top variables of another
 pub record SameTops (g g' : Scope) : Type 0 where
@@ -68,28 +78,30 @@ stopped_in top base g g' m m' s' z w =
     subst (λ ds. Stopped top base g'.structs ds m m' s') (sym z.tops) (subst (λ structs. Stopped top base structs g.tops m m' s') (sym z.structs) w)
 
 -- what follows an expression
-pub after_expression : (top base d d' n : ℕ) (g g' : Scope) (t : Ty) (spot : Spot) (m : Memory) (s : State) (r : Eval) (q : Ran) (next : Val → State → Eval) (next' : Memory → Ran) → SameTops g g' → Agrees top base d g t spot m s r q → ((v : Val) (s' : State) (m' : Memory) → StandsAt g.structs t v m' (place_of base spot) → Kept top base d g m m' s s' → AgreesStmt top base d' n g' m' (next v s') (next' m')) → AgreesStmt top base d' n g' m (then_eval r next) (then_run q next')
-after_expression top base d d' n g g' t spot m s (Got v s') (Done m') next next' z a k = from_alike top base d' n g' m m' _ _ (alike_kept top base d g m m' s s' a.1) (k v s' m' a.0 a.1)
-after_expression top base d d' n g g' t spot m s (Got v s') (Trapped u m') next next' z a k = absurd a
-after_expression top base d d' n g g' t spot m s (Got v s') Out next next' z a k = absurd a
-after_expression top base d d' n g g' t spot m s (Traps u s') (Done m') next next' z a k = absurd a
-after_expression top base d d' n g g' t spot m s (Traps u s') (Trapped w m') next next' z a k = (a.0, stopped_in top base g g' m m' s' z (stopped_kept top base d g m m' s s' a.1))
-after_expression top base d d' n g g' t spot m s (Traps u s') Out next next' z a k = absurd a
-after_expression top base d d' n g g' t spot m s RunsOut (Done m') next next' z a k = absurd a
-after_expression top base d d' n g g' t spot m s RunsOut (Trapped w m') next next' z a k = absurd a
-after_expression top base d d' n g g' t spot m s RunsOut Out next next' z a k = tt
+pub after_expression : (top base d d' n : ℕ) (g g' : Scope) (t : Ty) (spot : Spot) (m : Memory) (s : State) (r : Eval) (q : Ran) (next : Val → State → Eval) (next' : Memory → Ran) → SameTops g g' → Agrees top base d g t spot m s r q →
+    ((v : Val) (s' : State) (m' : Memory) → StandsAt g.structs t v m' (place_of base spot) → Kept top base d g m m' s s' → AgreesStmt top base d' n g' m' (next v s') (next' m')) → AgreesStmt top base d' n g' m (then_eval r next) (then_run q next')
+after_expression top base d d' n g g' t spot m s r q next next' z a k =
+    ends_then (λ v s' m'. StandsAt g.structs t v m' (place_of base spot) × Kept top base d g m m' s s') (λ s' m'. Kept top base d g m m' s s')
+    (λ v s' m'. Went top base d' n g' m m' s') (λ s' m'. Stopped top base g'.structs g'.tops m m' s') r q next next'
+    (λ s' m' x. stopped_in top base g g' m m' s' z (stopped_kept top base d g m m' s s' x)) a
+    (λ v s' m' x. from_alike top base d' n g' m m' _ _ (alike_kept top base d g m m' s s' x.1) (k v s' m' x.0 x.1))
 
 -- what follows statements
-pub after_statements : (top base d d' n : ℕ) (g g' : Scope) (m : Memory) (r : Eval) (q : Ran) (next : Val → State → Eval) (next' : Memory → Ran) → SameTops g g' → AgreesStmt top base d n g m r q → ((v : Val) (s' : State) (m' : Memory) → Went top base d n g m m' s' → AgreesStmt top base d' n g' m' (next v s') (next' m')) → AgreesStmt top base d' n g' m (then_eval r next) (then_run q next')
-after_statements top base d d' n g g' m (Got v s') (Done m') next next' z a k = from_alike top base d' n g' m m' _ _ (alike_went top base d n g m m' s' a) (k v s' m' a)
-after_statements top base d d' n g g' m (Got v s') (Trapped u m') next next' z a k = absurd a
-after_statements top base d d' n g g' m (Got v s') Out next next' z a k = absurd a
-after_statements top base d d' n g g' m (Traps u s') (Done m') next next' z a k = absurd a
-after_statements top base d d' n g g' m (Traps u s') (Trapped w m') next next' z a k = (a.0, stopped_in top base g g' m m' s' z a.1)
-after_statements top base d d' n g g' m (Traps u s') Out next next' z a k = absurd a
-after_statements top base d d' n g g' m RunsOut (Done m') next next' z a k = absurd a
-after_statements top base d d' n g g' m RunsOut (Trapped w m') next next' z a k = absurd a
-after_statements top base d d' n g g' m RunsOut Out next next' z a k = tt
+pub after_statements : (top base d d' n : ℕ) (g g' : Scope) (m : Memory) (r : Eval) (q : Ran) (next : Val → State → Eval) (next' : Memory → Ran) → SameTops g g' → AgreesStmt top base d n g m r q →
+    ((v : Val) (s' : State) (m' : Memory) → Went top base d n g m m' s' → AgreesStmt top base d' n g' m' (next v s') (next' m')) → AgreesStmt top base d' n g' m (then_eval r next) (then_run q next')
+after_statements top base d d' n g g' m r q next next' z a k =
+    ends_then (λ v s' m'. Went top base d n g m m' s') (λ s' m'. Stopped top base g.structs g.tops m m' s')
+    (λ v s' m'. Went top base d' n g' m m' s') (λ s' m'. Stopped top base g'.structs g'.tops m m' s') r q next next'
+    (λ s' m' x. stopped_in top base g g' m m' s' z x) a
+    (λ v s' m' x. from_alike top base d' n g' m m' _ _ (alike_went top base d n g m m' s' x) (k v s' m' x))
+
+-- what an expression leaves is what a statement may leave
+pub kept_stated : (top base d n : ℕ) (g : Scope) (t : Ty) (spot : Spot) (m : Memory) (s : State) (r : Eval) (q : Ran) → Holds top base d n g m s → Agrees top base d g t spot m s r q → AgreesStmt top base d n g m r q
+kept_stated top base d n g t spot m s r q h a =
+    ends_weaker (λ v s' m'. StandsAt g.structs t v m' (place_of base spot) × Kept top base d g m m' s s') (λ s' m'. Kept top base d g m m' s s')
+    (λ v s' m'. Went top base d n g m m' s') (λ s' m'. Stopped top base g.structs g.tops m m' s') r q
+    (λ v s' m' x. record { holds = kept_holds top base d d n g m m' s s' (omega arith) h x.1; same = λ i b c. x.1.same i b (omega arith); size = x.1.size })
+    (λ s' m' x. stopped_kept top base d g m m' s s' x) a
 
 -- nothing is done
 pub idle : (top base d n : ℕ) (g : Scope) (m : Memory) (v : Val) (s : State) → Holds top base d n g m s → AgreesStmt top base d n g m (Got v s) (Done m)

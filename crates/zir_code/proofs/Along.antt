@@ -39,7 +39,7 @@ use Rattle.zir_code.specs.Fine.{Fits, AlongFits, AgreesStmt}
 use Rattle.zir_code.specs.Calls.{Calls}
 use Rattle.zir_code.specs.Laws.{ExpressionsAgree}
 use Rattle.zir_code.proofs.Kept.{low_place, kept_holds, kept_on, kept_kept, kept_less, holds_kept, holds_more, changed_cell, cell_written, kept_changed}
-use Rattle.zir_code.proofs.Temp.{go_all-append, then-then}
+use Rattle.zir_code.proofs.Agreeing.{go_all-append, then-then}
 use Rattle.zir_code.proofs.Alike.{after_expression, from_alike, alike_kept, same_tops, stopped_kept}
 use Rattle.zir_code.proofs.Replacing.{Writes, stands_room, writes_all, writes_element, writes_range, writes_part, part_is, part_shape, part_room}
 use Rattle.zir_code.proofs.Offsetting.{below_or_not, offset_inside, offset_outside}
