@@ -2,6 +2,7 @@ pub mod Agreeing
 pub mod Alike
 pub mod Along
 pub mod Arguments
+pub mod Blank
 pub mod Calls
 pub mod Cells
 pub mod Kept
