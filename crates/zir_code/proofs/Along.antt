@@ -41,7 +41,8 @@ use Rattle.zir_code.specs.Laws.{ExpressionsAgree}
 use Rattle.zir_code.proofs.Kept.{low_place, kept_holds, kept_on, kept_kept, kept_less, holds_kept, holds_more, changed_cell, cell_written, kept_changed}
 use Rattle.zir_code.proofs.Agreeing.{go_all-append, then-then}
 use Rattle.zir_code.proofs.Alike.{after_expression, from_alike, alike_kept, same_tops, stopped_kept}
-use Rattle.zir_code.proofs.Replacing.{Writes, stands_room, writes_all, writes_element, writes_range, writes_part, part_is, part_shape, part_room}
+use Rattle.zir_code.proofs.Replacing.{Writes, stands_room, writes_all, writes_element, writes_range, writes_part, part_shape, part_room}
+use Rattle.zir_code.proofs.TypesFound.{part_found}
 use Rattle.zir_code.proofs.Offsetting.{below_or_not, offset_inside, offset_outside}
 
 -- a value of a whole type is a number
@@ -230,7 +231,7 @@ slice_agrees top base o d n c len l g b u t e p path next' whole f rest old k m 
 -- a part on a path
 part_agrees : (top base o d n i : ℕ) (l : Library) (g : Scope) (ty u t : Ty) (name : List ℕ) (p : Place) (path : List Access) (next' : Memory → Ran) → PartFits g.structs ty i u → Follows top base o d n l g u t path next' → Follows top base o d n l g ty t (Part name i p ∷ path) next'
 part_agrees top base o d n i l g ty u t name p path next' f rest old k m s next w on =
-    let q : u ≡ part_type g.structs ty i = sym (part_is g.structs ty i u f) in
+    let q : u ≡ part_type g.structs ty i = sym (part_found g.structs ty i u f) in
     let shift : ℕ = along_shift g u path in
     let before : ℕ = part_offset g.structs ty i in
     let room = part_room g.structs ty i u old w.shape f in

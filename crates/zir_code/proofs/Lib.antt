@@ -12,5 +12,6 @@ pub mod Operating
 pub mod Replacing
 pub mod Simulation
 pub mod Stores
+pub mod Storing
 pub mod TypesFound
 pub mod Values

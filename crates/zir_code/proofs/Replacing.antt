@@ -22,7 +22,7 @@ use Rattle.zir_shapes.proofs.Slicing.{elements-stand, ranges-stand, elements-rep
 use Rattle.zir_shapes.proofs.StructFields.{fields-stand, fields-replaced}
 use Rattle.zir_shapes.proofs.ComplexNumbers.{complex-parts-stand, complex-parts-replaced}
 use Rattle.zir_shapes.proofs.Overlaying.{overlaid-between, overlaid-inside}
-use Rattle.zir_code.specs.Types.{type_or_unit, base_part_type, base_part_offset, part_type, part_offset}
+use Rattle.zir_code.specs.Types.{base_part_offset, part_offset}
 use Rattle.zir_code.specs.Typing.{BasePartFits, PartFits}
 
 -- a path leads from a value of one type to one of another so many cells behind its first, and a value there keeps the shape, with its cells over the old ones
@@ -176,22 +176,6 @@ pub part_shape : (ds : List StructDef) (ty : Ty) (i : ℕ) (t : Ty) (v : Val) �
 part_shape ds ty i t v h f =
     let e : plain_type ty.base ≡ ty = ap (λ (ls : List ℕ). record { lengths = ls; base = ty.base }) (sym f.0) in
     base_part_shape ds ty.base i t v (subst (λ ty. Shaped ds ty v) (sym e) h) f.1
-
-base_part_is : (ds : List StructDef) (b : Base) (i : ℕ) (t : Ty) → BasePartFits ds b i t → base_part_type ds b i ≡ t
-base_part_is ds UnitTy i t f = absurd f
-base_part_is ds BitTy i t f = absurd f
-base_part_is ds BoolTy i t f = absurd f
-base_part_is ds Int8 i t f = absurd f
-base_part_is ds Int16 i t f = absurd f
-base_part_is ds Int32 i t f = absurd f
-base_part_is ds Int64 i t f = absurd f
-base_part_is ds Complex16 i t f = sym f
-base_part_is ds Complex32 i t f = sym f
-base_part_is ds (StructTy j) i t f = ap type_or_unit f
-
--- the type of a part that fits
-pub part_is : (ds : List StructDef) (ty : Ty) (i : ℕ) (t : Ty) → PartFits ds ty i t → part_type ds ty i ≡ t
-part_is ds ty i t f = base_part_is ds ty.base i t f.1
 
 -- a part has no more cells than the whole
 pub part_room : (ds : List StructDef) (ty : Ty) (i : ℕ) (t : Ty) (v : Val) → Shaped ds ty v → PartFits ds ty i t → layout_of ds t ≤ layout_of ds ty
