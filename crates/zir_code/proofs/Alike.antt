@@ -77,14 +77,20 @@ stopped_in : (top base : ℕ) (g g' : Scope) (m m' : Memory) (s' : State) → Sa
 stopped_in top base g g' m m' s' z w =
     subst (λ ds. Stopped top base g'.structs ds m m' s') (sym z.tops) (subst (λ structs. Stopped top base structs g.tops m m' s') (sym z.structs) w)
 
--- what follows an expression
+-- what follows an expression, from where it begins
+pub from_expression : (top base d d' n : ℕ) (g g' : Scope) (t : Ty) (spot : Spot) (m : Memory) (s : State) (r : Eval) (q : Ran) (next : Val → State → Eval) (next' : Memory → Ran) → SameTops g g' → Agrees top base d g t spot m s r q →
+    ((v : Val) (s' : State) (m' : Memory) → StandsAt g.structs t v m' (place_of base spot) → Kept top base d g m m' s s' → AgreesStmt top base d' n g' m (next v s') (next' m')) → AgreesStmt top base d' n g' m (then_eval r next) (then_run q next')
+from_expression top base d d' n g g' t spot m s r q next next' z a k =
+    ends_then (λ v s' m'. StandsAt g.structs t v m' (place_of base spot) × Kept top base d g m m' s s') (λ s' m'. Kept top base d g m m' s s')
+    (λ v s' m'. Went top base d' n g' m m' s') (λ s' m'. Stopped top base g'.structs g'.tops m m' s') r q next next'
+    (λ s' m' x. stopped_in top base g g' m m' s' z (stopped_kept top base d g m m' s s' x)) a (λ v s' m' x. k v s' m' x.0 x.1)
+
+-- what follows an expression, from where it ends
 pub after_expression : (top base d d' n : ℕ) (g g' : Scope) (t : Ty) (spot : Spot) (m : Memory) (s : State) (r : Eval) (q : Ran) (next : Val → State → Eval) (next' : Memory → Ran) → SameTops g g' → Agrees top base d g t spot m s r q →
     ((v : Val) (s' : State) (m' : Memory) → StandsAt g.structs t v m' (place_of base spot) → Kept top base d g m m' s s' → AgreesStmt top base d' n g' m' (next v s') (next' m')) → AgreesStmt top base d' n g' m (then_eval r next) (then_run q next')
 after_expression top base d d' n g g' t spot m s r q next next' z a k =
-    ends_then (λ v s' m'. StandsAt g.structs t v m' (place_of base spot) × Kept top base d g m m' s s') (λ s' m'. Kept top base d g m m' s s')
-    (λ v s' m'. Went top base d' n g' m m' s') (λ s' m'. Stopped top base g'.structs g'.tops m m' s') r q next next'
-    (λ s' m' x. stopped_in top base g g' m m' s' z (stopped_kept top base d g m m' s s' x)) a
-    (λ v s' m' x. from_alike top base d' n g' m m' _ _ (alike_kept top base d g m m' s s' x.1) (k v s' m' x.0 x.1))
+    from_expression top base d d' n g g' t spot m s r q next next' z a
+    (λ v s' m' st kept. from_alike top base d' n g' m m' _ _ (alike_kept top base d g m m' s s' kept) (k v s' m' st kept))
 
 -- what follows statements
 pub after_statements : (top base d d' n : ℕ) (g g' : Scope) (m : Memory) (r : Eval) (q : Ran) (next : Val → State → Eval) (next' : Memory → Ran) → SameTops g g' → AgreesStmt top base d n g m r q →

@@ -2,6 +2,8 @@ pub mod Agreeing
 pub mod Alike
 pub mod Along
 pub mod Arguments
+pub mod Assigning
+pub mod Temp
 pub mod Blank
 pub mod Calls
 pub mod Cells
