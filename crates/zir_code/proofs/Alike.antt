@@ -73,7 +73,7 @@ pub record SameTops (g g' : Scope) : Type 0 where
 pub same_tops : (g : Scope) → SameTops g g
 same_tops g = record { structs = refl; tops = refl }
 
-stopped_in : (top base : ℕ) (g g' : Scope) (m m' : Memory) (s' : State) → SameTops g g' → Stopped top base g.structs g.tops m m' s' → Stopped top base g'.structs g'.tops m m' s'
+pub stopped_in : (top base : ℕ) (g g' : Scope) (m m' : Memory) (s' : State) → SameTops g g' → Stopped top base g.structs g.tops m m' s' → Stopped top base g'.structs g'.tops m m' s'
 stopped_in top base g g' m m' s' z w =
     subst (λ ds. Stopped top base g'.structs ds m m' s') (sym z.tops) (subst (λ structs. Stopped top base structs g.tops m m' s') (sym z.structs) w)
 

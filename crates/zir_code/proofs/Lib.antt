@@ -12,6 +12,7 @@ pub mod Moves
 pub mod Offsetting
 pub mod Operating
 pub mod Replacing
+pub mod Scopes
 pub mod Simulation
 pub mod Stores
 pub mod Storing
