@@ -110,8 +110,8 @@ kept_stated top base d n g t spot m s r q h a =
     (λ s' m' x. stopped_kept top base d g m m' s s' x) a
 
 -- nothing is done
-pub idle : (top base d n : ℕ) (g : Scope) (m : Memory) (v : Val) (s : State) → Holds top base d n g m s → AgreesStmt top base d n g m (Got v s) (Done m)
-idle top base d n g m v s h = record { holds = h; same = λ i a b. refl; size = refl }
+pub idle : (top base d n : ℕ) (g : Scope) (m : Memory) (s : State) → Holds top base d n g m s → AgreesStmt top base d n g m (Got UnitVal s) (Done m)
+idle top base d n g m s h = record { holds = h; same = λ i a b. refl; size = refl }
 
 -- a statement adds names behind those in scope
 pub record Adds (g g' : Scope) : Type 0 where

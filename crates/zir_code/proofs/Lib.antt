@@ -8,6 +8,7 @@ pub mod Blank
 pub mod Calls
 pub mod Cells
 pub mod Kept
+pub mod Loops
 pub mod Moves
 pub mod Offsetting
 pub mod Operating
