@@ -25,7 +25,7 @@ record Spread (n p : ℕ) (x : ℤ) (m m' : Memory) : Type 0 where
   pub filled : (k : ℕ) → k ≤ n → cell m'.cells (p + k) ≡ x
   pub changed : Changed p (p + 1 + n) m m'
 
-no_change : (low high : ℕ) (m : Memory) → Changed low high m m
+pub no_change : (low high : ℕ) (m : Memory) → Changed low high m m
 no_change low high m = record { others = λ i o. refl; size = refl; used = refl; limit = refl }
 
 -- one cell, and then the others from it

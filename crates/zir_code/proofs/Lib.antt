@@ -15,6 +15,7 @@ pub mod Operating
 pub mod Replacing
 pub mod Scopes
 pub mod Simulation
+pub mod Statements
 pub mod Stores
 pub mod Storing
 pub mod TypesFound
