@@ -5,6 +5,7 @@ pub mod Arguments
 pub mod Assigning
 pub mod Temp
 pub mod Blank
+pub mod Bodies
 pub mod Calls
 pub mod Cells
 pub mod Kept
