@@ -64,6 +64,20 @@ ends_then P Q P' Q' RunsOut (Done m) next next' f a k = absurd a
 ends_then P Q P' Q' RunsOut (Trapped w m) next next' f a k = absurd a
 ends_then P Q P' Q' RunsOut Out next next' f a k = tt
 
+-- less is said of the same end
+pub ends_less : (P : Val → State → Memory → Type 0) (Q : State → Memory → Type 0) (P' : Val → State → Memory → Type 0) (Q' : State → Memory → Type 0)
+    (r : Eval) (q : Ran) → ((v : Val) (s : State) (m : Memory) → P v s m → P' v s m) → ((s : State) (m : Memory) → Q s m → Q' s m) → Ends P Q r q →
+    Ends P' Q' r q
+ends_less P Q P' Q' (Got v s) (Done m) f h a = f v s m a
+ends_less P Q P' Q' (Got v s) (Trapped u m) f h a = absurd a
+ends_less P Q P' Q' (Got v s) Out f h a = absurd a
+ends_less P Q P' Q' (Traps u s) (Done m) f h a = absurd a
+ends_less P Q P' Q' (Traps u s) (Trapped w m) f h a = (a.0, h s m a.1)
+ends_less P Q P' Q' (Traps u s) Out f h a = absurd a
+ends_less P Q P' Q' RunsOut (Done m) f h a = absurd a
+ends_less P Q P' Q' RunsOut (Trapped w m) f h a = absurd a
+ends_less P Q P' Q' RunsOut Out f h a = tt
+
 -- more code behind it, which leaves the value as it is
 pub ends_more : (P : Val → State → Memory → Type 0) (Q : State → Memory → Type 0) (P' : Val → State → Memory → Type 0) (Q' : State → Memory → Type 0)
     (r : Eval) (q : Ran) (next' : Memory → Ran) → ((s : State) (m : Memory) → Q s m → Q' s m) → Ends P Q r q →
