@@ -17,7 +17,7 @@ use Rattle.zir_code.specs.Statements.{scope_after, free_after, scope_after_row}
 use Rattle.zir_code.specs.Fine.{Went, Stopped, AgreesStmt}
 use Rattle.zir_code.specs.Calls.{Calls}
 use Rattle.zir_code.proofs.Kept.{kept_holds}
-use Rattle.zir_code.proofs.Agreeing.{ends_then}
+use Rattle.zir_code.proofs.Agreeing.{ends_then, ends_less}
 
 -- two memories whose cells between the top variables and those of the body are the same
 pub record Alike (top base : ℕ) (m m' : Memory) : Type 0 where
@@ -45,23 +45,10 @@ stopped_from top base structs tops m m1 m' s' a w =
 pub stopped_kept : (top base d : ℕ) (g : Scope) (m m' : Memory) (s s' : State) → Kept top base d g m m' s s' → Stopped top base g.structs g.tops m m' s'
 stopped_kept top base d g m m' s s' k = record { tops_held = k.tops; same = λ i b c. k.same i b (omega arith); size = k.size; used = k.used; limit = k.limit }
 
--- what holds where less is said
-pub ends_weaker : (P : Val → State → Memory → Type 0) (Q : State → Memory → Type 0) (P' : Val → State → Memory → Type 0) (Q' : State → Memory → Type 0) (r : Eval) (q : Ran) →
-    ((v : Val) (s : State) (m : Memory) → P v s m → P' v s m) → ((s : State) (m : Memory) → Q s m → Q' s m) → Ends P Q r q → Ends P' Q' r q
-ends_weaker P Q P' Q' (Got v s) (Done m) f h a = f v s m a
-ends_weaker P Q P' Q' (Got v s) (Trapped u m) f h a = absurd a
-ends_weaker P Q P' Q' (Got v s) Out f h a = absurd a
-ends_weaker P Q P' Q' (Traps u s) (Done m) f h a = absurd a
-ends_weaker P Q P' Q' (Traps u s) (Trapped w m) f h a = (a.0, h s m a.1)
-ends_weaker P Q P' Q' (Traps u s) Out f h a = absurd a
-ends_weaker P Q P' Q' RunsOut (Done m) f h a = absurd a
-ends_weaker P Q P' Q' RunsOut (Trapped w m) f h a = absurd a
-ends_weaker P Q P' Q' RunsOut Out f h a = tt
-
 -- the same from an earlier memory
 pub from_alike : (top base d n : ℕ) (g : Scope) (m m1 : Memory) (r : Eval) (q : Ran) → Alike top base m m1 → AgreesStmt top base d n g m1 r q → AgreesStmt top base d n g m r q
 from_alike top base d n g m m1 r q a w =
-    ends_weaker (λ v s' m'. Went top base d n g m1 m' s') (λ s' m'. Stopped top base g.structs g.tops m1 m' s') (λ v s' m'. Went top base d n g m m' s') (λ s' m'. Stopped top base g.structs g.tops m m' s') r q
+    ends_less (λ v s' m'. Went top base d n g m1 m' s') (λ s' m'. Stopped top base g.structs g.tops m1 m' s') (λ v s' m'. Went top base d n g m m' s') (λ s' m'. Stopped top base g.structs g.tops m m' s') r q
     (λ v s' m' x. record { holds = x.holds; same = λ i b c. x.same i b c ∙ a.same i b c; size = x.size ∙ a.size })
     (λ s' m' x. stopped_from top base g.structs g.tops m m1 m' s' a x) w
 
@@ -104,7 +91,7 @@ after_statements top base d d' n g g' m r q next next' z a k =
 -- what an expression leaves is what a statement may leave
 pub kept_stated : (top base d n : ℕ) (g : Scope) (t : Ty) (spot : Spot) (m : Memory) (s : State) (r : Eval) (q : Ran) → Holds top base d n g m s → Agrees top base d g t spot m s r q → AgreesStmt top base d n g m r q
 kept_stated top base d n g t spot m s r q h a =
-    ends_weaker (λ v s' m'. StandsAt g.structs t v m' (place_of base spot) × Kept top base d g m m' s s') (λ s' m'. Kept top base d g m m' s s')
+    ends_less (λ v s' m'. StandsAt g.structs t v m' (place_of base spot) × Kept top base d g m m' s s') (λ s' m'. Kept top base d g m m' s s')
     (λ v s' m'. Went top base d n g m m' s') (λ s' m'. Stopped top base g.structs g.tops m m' s') r q
     (λ v s' m' x. record { holds = kept_holds top base d d n g m m' s s' (omega arith) h x.1; same = λ i b c. x.1.same i b (omega arith); size = x.1.size })
     (λ s' m' x. stopped_kept top base d g m m' s s' x) a

@@ -41,9 +41,10 @@ use Rattle.zir_code.specs.Laws.{ExpressionsAgree}
 use Rattle.zir_code.proofs.Kept.{low_place, kept_holds, kept_on, kept_kept, kept_less, holds_kept, holds_more, changed_cell, cell_written, kept_changed}
 use Rattle.zir_code.proofs.Agreeing.{go_all-append, then-then}
 use Rattle.zir_code.proofs.Alike.{after_expression, from_alike, alike_kept, same_tops, stopped_kept}
-use Rattle.zir_code.proofs.Replacing.{Writes, stands_room, writes_all, writes_element, writes_range, writes_part, part_shape, part_room}
+use Rattle.zir_code.proofs.Places.{part_stands, inside_ends}
+use Rattle.zir_code.proofs.Replacing.{Writes, writes_all, writes_element, writes_range, writes_part}
 use Rattle.zir_code.proofs.TypesFound.{part_found}
-use Rattle.zir_code.proofs.Offsetting.{below_or_not, offset_inside, offset_outside}
+use Rattle.zir_code.proofs.Locating.{in_room, offset_inside, offset_outside}
 
 -- a value of a whole type is a number
 pub number_is : (structs : List StructDef) (b : Base) (v : Val) → IsWholeType b → Shaped structs (plain_type b) v → IsNumber v
@@ -82,7 +83,7 @@ by_test top base o d n code room size g p k (negsuc i) m s look next next' h le 
     subst (λ r. AgreesStmt top base d n g m (found code p r s next) (then_run (put_or_trap (Err code) (from_base base o) p m) next')) (sym (negative i))
     (refl, record { tops_held = h.tops; same = λ j a b. refl; size = refl; used = h.used; limit = h.limit })
 by_test top base o d n code room size g p k (pos i) m s look next next' h le fit negative outside inside =
-    elim (below_or_not i room) [
+    elim (in_room i room) [
       | inl lt ↦ (let f = inside i refl lt in
         let room_left : base + n ≤ length m.cells = h.room in
         let small : length m.cells < 2 ^ 63 = h.small in
@@ -183,7 +184,7 @@ element_agrees top base o d n c l g b u t e p path next' whole f rest old k m s 
     (along_code g u o path) next' w.agree w.calls whole f w.holds w.after w.fit w.here (λ i. refl) (λ i ge. elements-end g.structs c u old i w.shape ge)
     (λ i lt.
     let a = elements-stand g.structs c u old i w.shape lt in
-    let r = stands_room g.structs (array_type c u) u old a.value (i * size) w.shape a.stands in
+    let r = inside_ends g.structs (array_type c u) u old a.value (i * size) w.shape a.stands in
     let small = w.small in
     (a.value, a.is, (omega arith), λ m1 s1 kept here.
     rest a.value (k + i * size) m1 s1 (λ steps. next (ToElement i ∷ steps)) (record {
@@ -211,7 +212,7 @@ slice_agrees top base o d n c len l g b u t e p path next' whole f rest old k m 
     (λ i lt.
     let inside : i + len ≤ c = omega arith in
     let a = ranges-stand g.structs c u old i len w.shape inside in
-    let r = stands_room g.structs (array_type c u) (array_type len u) old a.value (i * size) w.shape a.stands in
+    let r = inside_ends g.structs (array_type c u) (array_type len u) old a.value (i * size) w.shape a.stands in
     let small = w.small in
     (a.value, a.is, (omega arith), λ m1 s1 kept here.
     rest a.value (k + i * size) m1 s1 (λ steps. next (ToRange i len ∷ steps)) (record {
@@ -234,14 +235,15 @@ part_agrees top base o d n i l g ty u t name p path next' f rest old k m s next 
     let q : u ≡ part_type g.structs ty i = sym (part_found g.structs ty i u f) in
     let shift : ℕ = along_shift g u path in
     let before : ℕ = part_offset g.structs ty i in
-    let room = part_room g.structs ty i u old w.shape f in
+    let part = part_stands g.structs ty i u old f w.shape in
+    let room = inside_ends g.structs ty u old (part_of i old) before w.shape part in
     let small = w.small in
     let kept = holds_kept top base d o n g m s w.holds in
     subst (λ x. Onward top base o d n g ty t k (before + along_shift g x path) m s next next' → AgreesStmt top base d n g m (along l path (part_of i old) s (λ steps. next (ToPart i ∷ steps))) (then_run (go_all (along_code g x o path) base m) next')) q
     (λ on'. rest (part_of i old) k m s (λ steps. next (ToPart i ∷ steps)) (record {
       agree = w.agree;
       calls = w.calls;
-      shape = part_shape g.structs ty i u old w.shape f;
+      shape = part.shape;
       small = omega arith;
       holds = w.holds;
       after = w.after;

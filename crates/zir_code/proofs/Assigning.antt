@@ -35,15 +35,23 @@ use Rattle.zir_code.proofs.Kept.{low_place, variable_found, kept_holds, kept_les
 use Rattle.zir_code.proofs.Agreeing.{go_all-append, then-done}
 use Rattle.zir_code.proofs.Moves.{Placed, Goes, Settled, settles, moving_goes}
 use Rattle.zir_code.proofs.TypesFound.{types_are_found}
-use Rattle.zir_code.proofs.Temp.{placed, has_room}
+use Rattle.zir_code.proofs.Places.{placed}
+use Rattle.zir_code.proofs.Room.{value_room}
 use Rattle.zir_code.proofs.Alike.{SameTops, same_tops, from_expression, from_alike, alike_kept}
 use Rattle.zir_code.proofs.Along.{Walked, Underway, along_agrees}
 use Rattle.zir_code.proofs.Storing.{Ready, ready_kept, store_agrees, shifted_place, parts_alone}
-use Rattle.zir_code.proofs.Offsetting.{address_is}
+use Rattle.zir_code.proofs.Locating.{low_address}
 
 -- code that ends goes on
 pub goes_on : (P : Memory → Type 0) (first rest : List Step) (base : ℕ) (m : Memory) (w : Goes P (go_all first base m)) → go_all (first ++ rest) base m ≡ go_all rest base w.memory
 goes_on P first rest base m w = go_all-append first rest base m ∙ ap (λ q. then_run q (go_all rest base)) w.is
+
+-- where the value of an expression stands, where there is room for its code
+pub fitting : (top base d n : ℕ) (l : Library) (g : Scope) (t : Ty) (e : Expr) (m : Memory) (s : State) → Fits g d n t e → Holds top base d n g m s → Placed top base d d (layout_of g.structs t) (stands g e d)
+fitting top base d n l g t e m s f h =
+    let room = value_room g n t e d f.0 in
+    let fit = f.1 in
+    placed top base d n d l g t e m s (omega arith) (omega arith) (omega arith) f.0 h
 
 -- the value of an expression in the first free cells, and what follows
 pub after_settled : (top base d d' n k : ℕ) (l : Library) (g g' : Scope) (t : Ty) (e : Expr) (m : Memory) (s : State) (next : Val → State → Eval) (rest : List Step) →
@@ -53,13 +61,13 @@ pub after_settled : (top base d d' n k : ℕ) (l : Library) (g g' : Scope) (t : 
 after_settled top base d d' n k l g g' t e m s next rest z agree calls f size h on =
     let x : Spot = stands g e d in
     let fit = f.1 in
-    let room = has_room d n g t e f.0 in
+    let room = value_room g n t e d f.0 in
     subst (λ k. AgreesStmt top base d' n g' m (then_eval (ev l e s) next) (go_all (code_of g e d ++ (settling x d k ++ rest)) base m)) (sym size)
     (subst (λ q. AgreesStmt top base d' n g' m (then_eval (ev l e s) next) q) (sym (go_all-append (code_of g e d) (settling x d (layout_of g.structs t) ++ rest) base m))
     (from_expression top base d d' n g g' t x m s (ev l e s) (go_all (code_of g e d) base m) next (go_all (settling x d (layout_of g.structs t) ++ rest) base) z
     (agree top base d n l g calls t e m s f.0 f.1 h)
     (λ v s1 m1 st kept.
-    let w = settles top base d n g t v x m m1 s s1 h.apart (omega arith) h.room h.small kept st (placed top base d n g t e m s f.0 f.1 h) in
+    let w = settles top base d n g t v x m m1 s s1 h.apart (omega arith) h.room h.small kept st (fitting top base d n l g t e m s f h) in
     subst (λ q. AgreesStmt top base d' n g' m (next v s1) q) (sym (goes_on (Settled top base d g t v m s s1) (settling x d (layout_of g.structs t)) rest base m1 w))
     (from_alike top base d' n g' m w.memory _ _ (alike_kept top base d g m w.memory s s1 w.so.kept) (on v s1 w.memory w.so.stands w.so.kept)))))
 
@@ -80,21 +88,21 @@ kept_value : (k top base d n : ℕ) (l : Library) (g : Scope) (t : Ty) (e : Expr
     AgreesStmt top base d n g m (then_eval (ev l e s) next) (go_all (code_of g e d ++ (keeping (stands g e d) d k ++ rest)) base m)
 kept_value zero top base d n l g t e m s next rest agree calls f size h on =
     let x : Spot = stands g e d in
-    let p = placed top base d n g t e m s f.0 f.1 h in
+    let p = fitting top base d n l g t e m s f h in
     subst (λ q. AgreesStmt top base d n g m (then_eval (ev l e s) next) q) (sym (go_all-append (code_of g e d) rest base m))
     (from_expression top base d d n g g t x m s (ev l e s) (go_all (code_of g e d) base m) next (go_all rest base) (same_tops g)
     (agree top base d n l g calls t e m s f.0 f.1 h)
     (λ v s1 m1 st kept. from_alike top base d n g m m1 _ _ (alike_kept top base d g m m1 s s1 kept) (on v s1 m1 (few_ready top base d 0 g t v x m1 (omega arith) size st p) kept)))
 kept_value (suc zero) top base d n l g t e m s next rest agree calls f size h on =
     let x : Spot = stands g e d in
-    let p = placed top base d n g t e m s f.0 f.1 h in
+    let p = fitting top base d n l g t e m s f h in
     subst (λ q. AgreesStmt top base d n g m (then_eval (ev l e s) next) q) (sym (go_all-append (code_of g e d) rest base m))
     (from_expression top base d d n g g t x m s (ev l e s) (go_all (code_of g e d) base m) next (go_all rest base) (same_tops g)
     (agree top base d n l g calls t e m s f.0 f.1 h)
     (λ v s1 m1 st kept. from_alike top base d n g m m1 _ _ (alike_kept top base d g m m1 s s1 kept) (on v s1 m1 (few_ready top base d 1 g t v x m1 (omega arith) size st p) kept)))
 kept_value (suc (suc k)) top base d n l g t e m s next rest agree calls f size h on =
     let fit = f.1 in
-    let room = has_room d n g t e f.0 in
+    let room = value_room g n t e d f.0 in
     let left : base + n ≤ length m.cells = h.room in
     let small : length m.cells < 2 ^ 63 = h.small in
     let apart : top ≤ base = h.apart in
@@ -173,7 +181,7 @@ stores_at top base d n k l g id v t w y path m s fit z =
     let size2 = sizes-fit g.structs v.ty (look_up s2.store id) f2.shape in
     let place : place_of base to ≡ place_of base v.spot + shift = shifted_place base n shift v.spot v.cells z.fits.spot (omega arith) (omega arith) in
     let address : address_of base to (cell_at (from_base base o) m2) ≡ place_of base v.spot + (shift + j) =
-    ap (address_of base to) walked.here ∙ address_is base to (0 + j) (omega arith) ∙ (let e : place_of base to + (0 + j) ≡ place_of base v.spot + (shift + j) = omega arith in e) in
+    ap (address_of base to) walked.here ∙ low_address base (0 + j) to (omega arith) ∙ (let e : place_of base to + (0 + j) ≡ place_of base v.spot + (shift + j) = omega arith in e) in
     subst (λ i. AgreesStmt top base d n g m2 (stored id w steps s2) (Done (moved k i (place_of base y) m2))) (sym address)
     (store_agrees top base d k n (shift + j) g id v t w y steps m2 s2 z.found z.sole z.fits (omega arith) h2 ready walked.writes))))
 

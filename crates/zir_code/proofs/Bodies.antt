@@ -37,7 +37,6 @@ use Rattle.zir_code.proofs.Moves.{Placed, Moved, moves, moved_at, moving_goes, G
 use Rattle.zir_code.proofs.Agreeing.{go_all-append, ends_then, ends_more}
 use Rattle.zir_code.proofs.Stores.{hold_other}
 use Rattle.zir_code.proofs.TypesFound.{types_are_found}
-use Rattle.zir_code.proofs.Temp.{placed, has_room}
 use Rattle.zir_code.proofs.Alike.{Alike, SameTops, calls_after, alike_went, after_statements, stopped_from, stopped_in, stopped_kept, idle, Adds, adds_none, adds_both, adds_tops, adds_statement}
 use Rattle.zir_code.proofs.Statements.{statement_agrees}
 

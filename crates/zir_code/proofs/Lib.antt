@@ -13,7 +13,6 @@ pub mod Kept
 pub mod Locating
 pub mod Loops
 pub mod Moves
-pub mod Offsetting
 pub mod Operands
 pub mod Operating
 pub mod Paths

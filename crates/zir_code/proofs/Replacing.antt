@@ -1,7 +1,6 @@
 -- Values with another value at a path into them, and their cells.
 use Rattle.std.specs.Prelude.{ℕ, ◌+◌, ◌*◌, ◌<◌, ◌≤◌, ℤ, pos, Bool, true, false, List, [], ◌∷◌, ◌++◌, Option, Some, None, ◌≡◌, refl, take, drop, length, nat_le, slice_get, slice_index_or}
 use Rattle.std.proofs.Common.{sym, ap, ◌∙◌, arith, subst}
-use Rattle.std.proofs.lemmas.List.{length-append}
 use Rattle.std.proofs.lemmas.Option.{get_or_from_slice_get}
 use Rattle.zir_tree.specs.declared.value.Val.{Val, Unit as UnitVal, List as Vals}
 use Rattle.zir_tree.specs.declared.types.Base.{Base}
@@ -14,16 +13,17 @@ use Rattle.zir_meaning.specs.Evaluation.{element, range, range_if}
 use Rattle.zir_meaning.specs.Statements.{Step, ToElement, ToRange, ToPart, overwritten, replaced}
 use Rattle.zir_cells.specs.Cells.{cells_of}
 use Rattle.zir_cells.specs.Layout.{layout_of}
-use Rattle.zir_shapes.specs.Shapes.{Shaped, IsNumber, IsPair}
-use Rattle.zir_shapes.specs.Offsets.{array_type, plain_type, struct_type, is_whole, field_type, field_offset, complex_offset, overlaid}
+use Rattle.zir_shapes.specs.Shapes.{Shaped}
+use Rattle.zir_shapes.specs.Offsets.{array_type, plain_type, overlaid}
 use Rattle.zir_shapes.specs.Laws.{Stands, Found, Has}
 use Rattle.zir_shapes.proofs.Fitting.{sizes-fit}
 use Rattle.zir_shapes.proofs.Slicing.{elements-stand, ranges-stand, elements-replaced, ranges-replaced}
-use Rattle.zir_shapes.proofs.StructFields.{fields-stand, fields-replaced}
-use Rattle.zir_shapes.proofs.ComplexNumbers.{complex-parts-stand, complex-parts-replaced}
+use Rattle.zir_shapes.proofs.StructFields.{fields-replaced}
+use Rattle.zir_shapes.proofs.ComplexNumbers.{complex-parts-replaced}
 use Rattle.zir_shapes.proofs.Overlaying.{overlaid-between, overlaid-inside}
 use Rattle.zir_code.specs.Types.{base_part_offset, part_offset}
 use Rattle.zir_code.specs.Typing.{BasePartFits, PartFits}
+use Rattle.zir_code.proofs.Places.{part_stands, inside_ends}
 
 -- a path leads from a value of one type to one of another so many cells behind its first, and a value there keeps the shape, with its cells over the old ones
 pub record Writes (ds : List StructDef) (t u : Ty) (k : ℕ) (steps : List Step) : Type 0 where
@@ -33,14 +33,6 @@ pub record Writes (ds : List StructDef) (t u : Ty) (k : ℕ) (steps : List Step)
 append_none : (xs : List ℤ) → xs ++ [] ≡ xs
 append_none [] = refl
 append_none (x ∷ xs) = ap (λ ys. x ∷ ys) (append_none xs)
-
--- a part of a value ends where the value does
-pub stands_room : (ds : List StructDef) (t u : Ty) (old v : Val) (k : ℕ) → Shaped ds t old → Stands ds u v (cells_of old) k → k + layout_of ds u ≤ layout_of ds t
-stands_room ds t u old v k h s =
-    let a = length-append s.before (cells_of v ++ s.after) in
-    let b = length-append (cells_of v) s.after in
-    let c : length (cells_of old) ≡ length (s.before ++ (cells_of v ++ s.after)) = ap length s.split in
-    omega (arith, a, b, c, s.place, sizes-fit ds t old h, sizes-fit ds u v s.shape)
 
 -- the whole value
 pub writes_all : (ds : List StructDef) (t : Ty) → Writes ds t t 0 []
@@ -82,7 +74,7 @@ part_replaced ds t u w old v new whole steps o k writes s g f =
 pub writes_element : (ds : List StructDef) (n : ℕ) (t u : Ty) (v : Val) (i k : ℕ) (steps : List Step) → Shaped ds (array_type n t) v → i < n → Writes ds t u k steps → Writes ds (array_type n t) u (i * layout_of ds t + k) (ToElement i ∷ steps)
 writes_element ds n t u v i k steps shape lt writes = record {
   room =
-      (let a = stands_room ds (array_type n t) t v _ (i * layout_of ds t) shape (elements-stand ds n t v i shape lt).stands in
+      (let a = inside_ends ds (array_type n t) t v _ (i * layout_of ds t) shape (elements-stand ds n t v i shape lt).stands in
       let b = writes.room in
       omega arith);
   replaces = λ old new h g.
@@ -102,7 +94,7 @@ range_is false i k vs v e = absurd (cc)
 pub writes_range : (ds : List StructDef) (n : ℕ) (t u : Ty) (v : Val) (i len k : ℕ) (steps : List Step) → Shaped ds (array_type n t) v → i + len ≤ n → Writes ds (array_type len t) u k steps → Writes ds (array_type n t) u (i * layout_of ds t + k) (ToRange i len ∷ steps)
 writes_range ds n t u v i len k steps shape le writes = record {
   room =
-      (let a = stands_room ds (array_type n t) (array_type len t) v _ (i * layout_of ds t) shape (ranges-stand ds n t v i len shape le).stands in
+      (let a = inside_ends ds (array_type n t) (array_type len t) v _ (i * layout_of ds t) shape (ranges-stand ds n t v i len shape le).stands in
       let b = writes.room in
       omega arith);
   replaces = λ old new h g.
@@ -114,69 +106,40 @@ writes_range ds n t u v i len k steps shape le writes = record {
       (λ r. ranges-replaced ds n t old (replaced steps new (Vals (take len (drop i (parts old))))) i len h le r));
 }
 
--- a field of a struct
-pub writes_field : (ds : List StructDef) (j i k : ℕ) (t u : Ty) (v : Val) (steps : List Step) → Shaped ds (struct_type j) v → field_type ds j i ≡ Some t → Writes ds t u k steps → Writes ds (struct_type j) u (field_offset ds j i + k) (ToPart i ∷ steps)
-writes_field ds j i k t u v steps shape q writes = record {
-  room =
-      (let a = stands_room ds (struct_type j) t v (part_of i v) (field_offset ds j i) shape (fields-stand ds j i t v shape q) in
-      let b = writes.room in
-      omega arith);
-  replaces = λ old new h g.
-      part_replaced ds (struct_type j) t u old (part_of i old) new _ steps (field_offset ds j i) k writes (fields-stand ds j i t old h q) g
-      (λ r. fields-replaced ds j i t old (replaced steps new (part_of i old)) h q r);
-}
+-- a part with another value in its place
+base_part_replaced : (ds : List StructDef) (b : Base) (i : ℕ) (t : Ty) (old new : Val) → BasePartFits ds b i t → Shaped ds (plain_type b) old → Shaped ds t new →
+    Has ds (plain_type b) (with_part i new old) (overlaid (cells_of old) (base_part_offset ds b i) (cells_of new))
+base_part_replaced ds UnitTy i t old new f h g = absurd f
+base_part_replaced ds BitTy i t old new f h g = absurd f
+base_part_replaced ds BoolTy i t old new f h g = absurd f
+base_part_replaced ds Int8 i t old new f h g = absurd f
+base_part_replaced ds Int16 i t old new f h g = absurd f
+base_part_replaced ds Int32 i t old new f h g = absurd f
+base_part_replaced ds Int64 i t old new f h g = absurd f
+base_part_replaced ds Complex16 i t old new f h g =
+    let c = complex-parts-replaced i old new h (subst (λ t. Shaped ds t new) f g) in
+    record { shape = c.0; cells = c.1 }
+base_part_replaced ds Complex32 i t old new f h g =
+    let c = complex-parts-replaced i old new h (subst (λ t. Shaped ds t new) f g) in
+    record { shape = c.0; cells = c.1 }
+base_part_replaced ds (StructTy j) i t old new f h g = fields-replaced ds j i t old new h f g
 
--- a part of a complex number
-writes_half : (ds : List StructDef) (b : Base) (i k : ℕ) (t u : Ty) (v : Val) (steps : List Step) → is_whole b ≡ true → ((w : Val) → Shaped ds t w → IsPair w) → ((w : Val) → IsPair w → Shaped ds t w) → ((w : Val) → Shaped ds (plain_type b) w → IsNumber w) → Shaped ds t v → Writes ds (plain_type b) u k steps → Writes ds t u (complex_offset i + k) (ToPart i ∷ steps)
-writes_half ds b i k t u v steps whole is_pair from_pair is_number shape writes = record {
-  room =
-      (let a = stands_room ds t (plain_type b) v (part_of i v) (complex_offset i) shape (complex-parts-stand ds b i v whole (is_pair v shape)) in
-      let b = writes.room in
-      omega arith);
-  replaces = λ old new h g.
-      part_replaced ds t (plain_type b) u old (part_of i old) new _ steps (complex_offset i) k writes (complex-parts-stand ds b i old whole (is_pair old h)) g
-      (λ r. (let c = complex-parts-replaced i old (replaced steps new (part_of i old)) (is_pair old h) (is_number _ r) in
-      record { shape = from_pair _ c.0; cells = c.1 }));
-}
-
--- a part of what is no array
-writes_base : (ds : List StructDef) (b : Base) (i k : ℕ) (t u : Ty) (v : Val) (steps : List Step) → Shaped ds (plain_type b) v → BasePartFits ds b i t → Writes ds t u k steps → Writes ds (plain_type b) u (base_part_offset ds b i + k) (ToPart i ∷ steps)
-writes_base ds UnitTy i k t u v steps h f w = absurd f
-writes_base ds BitTy i k t u v steps h f w = absurd f
-writes_base ds BoolTy i k t u v steps h f w = absurd f
-writes_base ds Int8 i k t u v steps h f w = absurd f
-writes_base ds Int16 i k t u v steps h f w = absurd f
-writes_base ds Int32 i k t u v steps h f w = absurd f
-writes_base ds Int64 i k t u v steps h f w = absurd f
-writes_base ds Complex16 i k t u v steps h f w = writes_half ds Int16 i k (plain_type Complex16) u v steps refl (λ _ a. a) (λ _ a. a) (λ _ a. a) h (subst (λ t. Writes ds t u k steps) f w)
-writes_base ds Complex32 i k t u v steps h f w = writes_half ds Int32 i k (plain_type Complex32) u v steps refl (λ _ a. a) (λ _ a. a) (λ _ a. a) h (subst (λ t. Writes ds t u k steps) f w)
-writes_base ds (StructTy j) i k t u v steps h f w = writes_field ds j i k t u v steps h f w
+part_with : (ds : List StructDef) (ty : Ty) (i : ℕ) (t : Ty) (old new : Val) → PartFits ds ty i t → Shaped ds ty old → Shaped ds t new →
+    Has ds ty (with_part i new old) (overlaid (cells_of old) (part_offset ds ty i) (cells_of new))
+part_with ds ty i t old new f h g =
+    let e : ty ≡ plain_type ty.base = ap (λ (ls : List ℕ). record { lengths = ls; base = ty.base }) f.0 in
+    subst (λ x. Has ds x (with_part i new old) (overlaid (cells_of old) (part_offset ds ty i) (cells_of new))) (sym e)
+    (base_part_replaced ds ty.base i t old new f.1 (subst (λ x. Shaped ds x old) e h) g)
 
 -- a part
-pub writes_part : (ds : List StructDef) (ty t u : Ty) (i k : ℕ) (v : Val) (steps : List Step) → Shaped ds ty v → PartFits ds ty i t → Writes ds t u k steps → Writes ds ty u (part_offset ds ty i + k) (ToPart i ∷ steps)
-writes_part ds ty t u i k v steps h f w =
-    let e : plain_type ty.base ≡ ty = ap (λ (ls : List ℕ). record { lengths = ls; base = ty.base }) (sym f.0) in
-    let a : Shaped ds (plain_type ty.base) v = subst (λ ty. Shaped ds ty v) (sym e) h in
-    subst (λ x. Writes ds x u (part_offset ds ty i + k) (ToPart i ∷ steps)) e (writes_base ds ty.base i k t u v steps a f.1 w)
-
--- a part has its shape
-base_part_shape : (ds : List StructDef) (b : Base) (i : ℕ) (t : Ty) (v : Val) → Shaped ds (plain_type b) v → BasePartFits ds b i t → Shaped ds t (part_of i v)
-base_part_shape ds UnitTy i t v h f = absurd f
-base_part_shape ds BitTy i t v h f = absurd f
-base_part_shape ds BoolTy i t v h f = absurd f
-base_part_shape ds Int8 i t v h f = absurd f
-base_part_shape ds Int16 i t v h f = absurd f
-base_part_shape ds Int32 i t v h f = absurd f
-base_part_shape ds Int64 i t v h f = absurd f
-base_part_shape ds Complex16 i t v h f = subst (λ t. Shaped ds t (part_of i v)) (sym f) (complex-parts-stand ds Int16 i v refl h).shape
-base_part_shape ds Complex32 i t v h f = subst (λ t. Shaped ds t (part_of i v)) (sym f) (complex-parts-stand ds Int32 i v refl h).shape
-base_part_shape ds (StructTy j) i t v h f = (fields-stand ds j i t v h f).shape
-
-pub part_shape : (ds : List StructDef) (ty : Ty) (i : ℕ) (t : Ty) (v : Val) → Shaped ds ty v → PartFits ds ty i t → Shaped ds t (part_of i v)
-part_shape ds ty i t v h f =
-    let e : plain_type ty.base ≡ ty = ap (λ (ls : List ℕ). record { lengths = ls; base = ty.base }) (sym f.0) in
-    base_part_shape ds ty.base i t v (subst (λ ty. Shaped ds ty v) (sym e) h) f.1
-
--- a part has no more cells than the whole
-pub part_room : (ds : List StructDef) (ty : Ty) (i : ℕ) (t : Ty) (v : Val) → Shaped ds ty v → PartFits ds ty i t → layout_of ds t ≤ layout_of ds ty
-part_room ds ty i t v h f = (let w = (writes_part ds ty t t i 0 v [] h f (writes_all ds t)).room in omega arith)
+pub writes_part : (ds : List StructDef) (ty t u : Ty) (i k : ℕ) (v : Val) (steps : List Step) → Shaped ds ty v → PartFits ds ty i t → Writes ds t u k steps →
+    Writes ds ty u (part_offset ds ty i + k) (ToPart i ∷ steps)
+writes_part ds ty t u i k v steps shape f writes = record {
+  room =
+      (let a = inside_ends ds ty t v (part_of i v) (part_offset ds ty i) shape (part_stands ds ty i t v f shape) in
+      let b = writes.room in
+      omega arith);
+  replaces = λ old new h g.
+      part_replaced ds ty t u old (part_of i old) new _ steps (part_offset ds ty i) k writes (part_stands ds ty i t old f h) g
+      (λ r. part_with ds ty i t old (replaced steps new (part_of i old)) f h r);
+}

@@ -1,7 +1,6 @@
 -- Scopes of statements, new names in them, and ticks.
 use Rattle.std.specs.Prelude.{ℕ, zero, suc, pos, ◌+◌, ◌<◌, ◌≤◌, ◌^◌, List, [], ◌∷◌, ◌++◌, Bool, true, false, nat_lt, ◌≡◌, refl, length, take}
 use Rattle.std.proofs.Common.{ap, ◌∙◌, sym, subst, arith, inl}
-use Rattle.std.proofs.lemmas.Bool.Decides.{nat_tests}
 use Rattle.zir_tree.specs.declared.value.Val.{Val, Unit as UnitVal}
 use Rattle.zir_tree.specs.declared.types.Ty.{Ty}
 use Rattle.zir_tree.specs.declared.stmt.Stmt.{Row_of-Stmt}
@@ -20,6 +19,7 @@ use Rattle.zir_code.specs.Statements.{with_local, scope_after_row, free_after_ro
 use Rattle.zir_code.specs.Fine.{Went, Stopped, AgreesStmt}
 use Rattle.zir_code.proofs.Kept.{Changed}
 use Rattle.zir_code.proofs.Stores.{hold_length, hold_front, bound_holds}
+use Rattle.zir_code.proofs.Calls.{no_tick, a_tick}
 use Rattle.zir_code.proofs.Alike.{Alike, alike_self, Adds, adds_row, adds_tops, stopped_in}
 
 -- the names of a scope leave it
@@ -70,12 +70,6 @@ declared top base d n g m m' s id ty v le st c h = record {
   same = λ i a b. c.others i (inl (omega arith));
   size = c.size;
 }
-
-no_tick : (used limit : ℕ) → nat_lt used limit ≡ true → limit ≡ used → ⊥
-no_tick used limit e f = grind (arith, nat_tests)
-
-a_tick : (used limit : ℕ) → nat_lt used limit ≡ false → used < limit → ⊥
-a_tick used limit e f = grind (arith, nat_tests)
 
 -- a tick, and what follows
 tick_of : (b : Bool) (top base d n : ℕ) (g : Scope) (m : Memory) (s : State) (left : ℕ) (next : State → Eval) (next' : Memory → Ran) → left ≡ s.left → b ≡ nat_lt m.used m.limit → Holds top base d n g m s →

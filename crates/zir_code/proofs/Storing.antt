@@ -31,9 +31,10 @@ use Rattle.zir_code.proofs.Cells.{cell, at_front, at_back, at_both, at_same}
 use Rattle.zir_code.proofs.Kept.{low_place, Changed, changed_both, variable_found}
 use Rattle.zir_code.proofs.Moves.{Moved, moves, moved_at}
 use Rattle.zir_code.proofs.Stores.{assigned_holds, assigned_same}
-use Rattle.zir_code.proofs.Replacing.{Writes, writes_all, writes_part, part_shape}
+use Rattle.zir_code.proofs.Places.{part_stands}
+use Rattle.zir_code.proofs.Replacing.{Writes, writes_all, writes_part}
 use Rattle.zir_code.proofs.TypesFound.{part_found}
-use Rattle.zir_code.proofs.Offsetting.{below_or_not}
+use Rattle.zir_code.proofs.Locating.{in_room}
 
 -- cells are those before a place, so many from there on, and the others
 three_parts : (i k : ℕ) (xs : List ℤ) → xs ≡ take i xs ++ (take k (drop i xs) ++ drop (i + k) xs)
@@ -116,7 +117,7 @@ store_agrees top base d n room k g id v t w y steps m s q sole fits le h r write
     let whole : length (cells_of (look_up s.store id)) ≡ layout_of g.structs v.ty = sizes-fit g.structs v.ty (look_up s.store id) f.shape in
     let before = r.before in
     let m' : Memory = moved n (p + k) from m in
-    let by : Moved n (p + k) from m m' = moves n (p + k) from m (apart r.apart (below_or_not from (p + k)) end) (omega arith) (omega arith) small in
+    let by : Moved n (p + k) from m m' = moves n (p + k) from m (apart r.apart (in_room from (p + k)) end) (omega arith) (omega arith) small in
     let has = writes.replaces (look_up s.store id) w f.shape r.stands.shape in
     let there : At m'.cells (p + k) (cells_of w) = moved_at n (p + k) from m m' (cells_of w) (omega arith) (omega arith) by r.stands.cells in
     let c : Changed p (p + v.cells) m m' = changed_wider (p + k) (p + k + n) p (p + v.cells) m m' (omega arith) (omega arith) by.changed in
@@ -148,7 +149,7 @@ parts_alone [] l g o n ty t old b f h = record { steps = []; writes = subst (λ 
 parts_alone (Index e p ∷ path) l g o n ty t old b f h = absurd (cc)
 parts_alone (Slice e k p ∷ path) l g o n ty t old b f h = absurd (cc)
 parts_alone (Part name i p ∷ path) l g o n ty t old b f h =
-    let r = parts_alone path l g o n f.0 t (part_of i old) b f.2 (part_shape g.structs ty i f.0 old h f.1) in
+    let r = parts_alone path l g o n f.0 t (part_of i old) b f.2 (part_stands g.structs ty i f.0 old f.1 h).shape in
     let e : f.0 ≡ part_type g.structs ty i = sym (part_found g.structs ty i f.0 f.1) in
     record {
       steps = ToPart i ∷ r.steps;
