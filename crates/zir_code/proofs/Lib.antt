@@ -17,6 +17,7 @@ pub mod Operands
 pub mod Operating
 pub mod Paths
 pub mod Places
+pub mod Program
 pub mod Replacing
 pub mod Room
 pub mod Rows
