@@ -9,6 +9,7 @@ pub mod Calls
 pub mod Calm
 pub mod Cells
 pub mod Complexes
+pub mod Indexing
 pub mod Kept
 pub mod Locating
 pub mod Loops
@@ -18,6 +19,7 @@ pub mod Operating
 pub mod Paths
 pub mod Places
 pub mod Program
+pub mod Reading
 pub mod Replacing
 pub mod Room
 pub mod Rows

@@ -5,6 +5,8 @@ use Rattle.zir_code.proofs.Operating.{converts}
 use Rattle.zir_code.proofs.Values.{put_pair}
 use Rattle.zir_code.proofs.TypesFound.{types_found}
 use Rattle.zir_code.proofs.Operands.{conversion_agrees}
+use Rattle.zir_code.proofs.Indexing.{part_agrees}
+use Rattle.zir_code.proofs.Reading.{last_step}
 use Rattle.zir_code.proofs.Rows.{as_many}
 use Rattle.zir_code.proofs.Calls.{calls_agree}
 use Rattle.zir_code.proofs.Paths.{value_path, variable_path}
