@@ -1,10 +1,10 @@
 pub mod Agreeing
 pub mod Alike
 pub mod Along
-pub mod Arguments
 pub mod Assigning
 pub mod Blank
 pub mod Bodies
+pub mod Calling
 pub mod Calls
 pub mod Calm
 pub mod Cells

@@ -30,7 +30,7 @@ use Rattle.zir_code.specs.Laws.{ExpressionsAgree}
 use Rattle.zir_code.proofs.Kept.{kept_holds}
 use Rattle.zir_code.proofs.Agreeing.{go_all-append}
 use Rattle.zir_code.proofs.Blank.{no_change, blanks_go}
-use Rattle.zir_code.proofs.Temp.{call_agrees}
+use Rattle.zir_code.proofs.Calling.{call_agrees}
 use Rattle.zir_code.proofs.Alike.{SameTops, from_alike, alike_went, after_statements, idle, kept_stated, Adds, adds_tops, adds_statement, adds_row, calls_after}
 use Rattle.zir_code.proofs.Scopes.{in_scope, declared}
 use Rattle.zir_code.proofs.Assigning.{after_settled, assigns}
