@@ -1,8 +1,8 @@
 -- Cells that become 0: the first, and the others each from the one before it.
-use Rattle.std.specs.Prelude.{ℕ, zero, suc, ℤ, pos, ◌+◌, ◌<◌, ◌≤◌, ◌^◌, List, [], ◌∷◌, ◌≡◌, ◌⊎◌, refl, length}
+use Rattle.std.specs.Prelude.{ℕ, zero, suc, ℤ, pos, ◌+◌, ◌<◌, ◌≤◌, ◌^◌, List, ◌≡◌, refl, length}
 use Rattle.std.proofs.Common.{ap, ◌∙◌, sym, subst, arith, inl, inr}
 use Rattle.zir_shapes.specs.Offsets.{zeros}
-use Rattle.zir_expr.specs.Memory.{Ran, Done, cell_at, put_cell, after, moved, from_base}
+use Rattle.zir_expr.specs.Memory.{Done, put_cell, after, moved, from_base}
 use Rattle.zir_expr.specs.Memory.Frames.{Memory}
 use Rattle.zir_expr.specs.Running.{go_all}
 use Rattle.zir_code.specs.Holding.{At}
@@ -29,21 +29,29 @@ pub no_change : (low high : ℕ) (m : Memory) → Changed low high m m
 no_change low high m = record { others = λ i o. refl; size = refl; used = refl; limit = refl }
 
 -- one cell, and then the others from it
-one_more_spread : (n p : ℕ) (x : ℤ) (m m' : Memory) → cell m.cells p ≡ x → p + 1 < length m.cells → Spread n (p + 1) x (put_cell (p + 1) x m) m' → Spread (suc n) p x m m'
+one_more_spread : (n p : ℕ) (x : ℤ) (m m' : Memory) → cell m.cells p ≡ x → p + 1 < length m.cells → Spread n (p + 1) x (put_cell (p + 1) x m) m' →
+    Spread (suc n) p x m m'
 one_more_spread n p x m m' here lt r =
     let m1 : Memory = put_cell (p + 1) x m in
     let one : Changed (p + 1) (p + 1 + 1) m m1 = changed_cell (p + 1) x m in
     record {
       filled = λ k le. elim (first_or_later k) [
-        | inl e ↦ ap (cell m'.cells) (let z : p + k ≡ p = omega arith in z) ∙ r.changed.others p (inl (omega arith)) ∙ one.others p (inl (omega arith)) ∙ here
+        | inl e ↦ ap (cell m'.cells) (let z : p + k ≡ p = omega arith in z) ∙ r.changed.others p (inl (omega arith))
+            ∙ one.others p (inl (omega arith)) ∙ here
         | inr e ↦ (let a : k ≡ suc e.0 = e.1 in ap (cell m'.cells) (let z : p + k ≡ p + 1 + e.0 = omega arith in z) ∙ r.filled e.0 (omega arith))
       ];
-      changed = changed_both (p + 1) (p + 1) (p + 1 + 1) (p + 1 + 1 + n) p (p + 1 + suc n) m m1 m' (omega arith) (omega arith) (omega arith) (omega arith) one r.changed;
+      changed = changed_both (p + 1) (p + 1) (p + 1 + 1) (p + 1 + 1 + n) p (p + 1 + suc n) m m1 m' (omega arith) (omega arith) (omega arith)
+          (omega arith) one r.changed;
     }
 
 -- a move of cells to those one behind them
-spreads : (n p : ℕ) (x : ℤ) (m : Memory) → cell m.cells p ≡ x → p + n < length m.cells → length m.cells < 2 ^ 63 → Spread n p x m (moved n (p + 1) p m)
-spreads zero p x m here lt small = record { filled = λ k le. ap (cell m.cells) (let z : p + k ≡ p = omega arith in z) ∙ here; changed = no_change p (p + 1 + 0) m }
+spreads : (n p : ℕ) (x : ℤ) (m : Memory) → cell m.cells p ≡ x → p + n < length m.cells → length m.cells < 2 ^ 63 →
+    Spread n p x m (moved n (p + 1) p m)
+spreads zero p x m here lt small = record {
+  filled = λ k le. ap (cell m.cells) (let z : p + k ≡ p = omega arith in z)
+      ∙ here;
+  changed = no_change p (p + 1 + 0) m;
+}
 spreads (suc n) p x m here lt small =
     let m1 : Memory = put_cell (p + 1) x m in
     let size : length m1.cells ≡ length m.cells = (changed_cell (p + 1) x m).size in
@@ -61,7 +69,8 @@ pub record Blanked (p n : ℕ) (m m' : Memory) : Type 0 where
   pub changed : Changed p (p + n) m m'
 
 -- cells become 0
-pub blanks_go : (n base d : ℕ) (m : Memory) → base + d + n ≤ length m.cells → length m.cells < 2 ^ 63 → Goes (Blanked (base + d) n m) (go_all (blank_code d n) base m)
+pub blanks_go : (n base d : ℕ) (m : Memory) → base + d + n ≤ length m.cells → length m.cells < 2 ^ 63 →
+    Goes (Blanked (base + d) n m) (go_all (blank_code d n) base m)
 blanks_go zero base d m room small = record { memory = m; is = refl; so = record { cells = tt; changed = no_change (base + d) (base + d + 0) m } }
 blanks_go (suc zero) base d m room small =
     let p : ℕ = base + d in
@@ -89,6 +98,7 @@ blanks_go (suc (suc n)) base d m room small =
       is = ap (λ q. Done (moved (suc n) (from_base base (d + 1)) q (put_cell q (pos 0) m))) e ∙ ap (λ q. Done (moved (suc n) q p m1)) f;
       so = record {
         cells = zeros_at (suc (suc n)) p m'.cells (λ k lt. s.filled k (omega arith)) (omega arith);
-        changed = changed_both p p (p + 1) (p + 1 + suc n) p (p + suc (suc n)) m m1 m' (omega arith) (omega arith) (omega arith) (omega arith) c s.changed;
+        changed = changed_both p p (p + 1) (p + 1 + suc n) p (p + suc (suc n)) m m1 m' (omega arith) (omega arith) (omega arith)
+            (omega arith) c s.changed;
       };
     }

@@ -1,6 +1,6 @@
 -- The code of all functions of a program does what they mean.
-use Rattle.std.specs.Prelude.{ℕ, suc, ℤ, ◌+◌, ◌≤◌, max, List, [], ◌∷◌, Bool, true, false, Option, Some, None, ◌≡◌, refl, nat_eq, length, map}
-use Rattle.std.proofs.Common.{ap, ◌∙◌, sym, subst, arith}
+use Rattle.std.specs.Prelude.{ℕ, suc, ℤ, ◌+◌, List, [], ◌∷◌, Bool, true, false, Option, Some, None, ◌≡◌, refl, nat_eq, map}
+use Rattle.std.proofs.Common.{sym, subst, arith}
 use Rattle.zir_tree.specs.declared.value.Val.{Val}
 use Rattle.zir_tree.specs.declared.types.Ty.{Ty}
 use Rattle.zir_tree.specs.declared.types.StructDef.{StructDef}
@@ -12,7 +12,6 @@ use Rattle.zir_meaning.specs.Evaluation.{Eval, Funs, Library}
 use Rattle.zir_meaning.specs.Statements.{run_body}
 use Rattle.zir_meaning.specs.Functions.{called_fun, pick, no_funs, one_more_fun, more_funs}
 use Rattle.zir_cells.specs.Layout.{layout_of}
-use Rattle.zir_shapes.specs.Shapes.{Ordered}
 use Rattle.zir_expr.specs.declared.frame.Spot.TheVariants.{Local}
 use Rattle.zir_expr.specs.Memory.{Ran, from_base}
 use Rattle.zir_expr.specs.Memory.Frames.{Memory}
@@ -22,14 +21,15 @@ use Rattle.zir_code.specs.declared.scope.Signature.{Signature}
 use Rattle.zir_code.specs.Scopes.{Scope}
 use Rattle.zir_code.specs.Holding.{StandsAt, Kept, Agrees}
 use Rattle.zir_code.specs.Bodies.{ArgumentsAt}
-use Rattle.zir_code.specs.Calls.{CellsAre, AllTop, bare, CallBegins, Calls}
+use Rattle.zir_code.specs.Calls.{CellsAre, bare, CallBegins, Calls}
 use Rattle.zir_code.specs.Program.{at_top, HasSignature, one_more_signature, FitsSignature, HaveSignatures, more_signatures}
 use Rattle.zir_code.specs.Laws.{ExpressionsAgree, FunctionsAgree}
 use Rattle.zir_code.proofs.Agreeing.{ends_less}
 use Rattle.zir_code.proofs.Bodies.{body_agrees}
 
 -- of what is in scope the top variables alone count here
-bare_agrees : (top base : ℕ) (structs : List StructDef) (tops : List Holder) (funs : ℕ → Option Signature) (t : Ty) (m : Memory) (s : State) (r : Eval) (q : Ran) → Agrees top base 0 (at_top structs tops funs) t (Local 0) m s r q →
+bare_agrees : (top base : ℕ) (structs : List StructDef) (tops : List Holder) (funs : ℕ → Option Signature) (t : Ty) (m : Memory) (s : State)
+    (r : Eval) (q : Ran) → Agrees top base 0 (at_top structs tops funs) t (Local 0) m s r q →
     Agrees top base 0 (bare structs tops) t (Local 0) m s r q
 bare_agrees top base structs tops funs t m s r q a =
     let g : Scope = at_top structs tops funs in
@@ -41,7 +41,8 @@ bare_agrees top base structs tops funs t m s r q a =
       kept s' m' k = record { tops = k.tops; tops_in = k.tops_in; locals = k.locals; same = k.same; size = k.size; used = k.used; limit = k.limit }
 
 -- values of the parameters' types are arguments
-are_arguments : (structs : List StructDef) (cells : List ℤ) (i : ℕ) (ps : List Field) (vs : List Val) → CellsAre structs cells i (map (λ p. type_of p.ty) ps) vs → ArgumentsAt structs cells i ps vs
+are_arguments : (structs : List StructDef) (cells : List ℤ) (i : ℕ) (ps : List Field) (vs : List Val) →
+    CellsAre structs cells i (map (λ p. type_of p.ty) ps) vs → ArgumentsAt structs cells i ps vs
 are_arguments structs cells i [] [] a = tt
 are_arguments structs cells i [] (v ∷ vs) a = absurd a
 are_arguments structs cells i (p ∷ ps) [] a = absurd a
@@ -54,7 +55,8 @@ CallAgrees top structs tops sig meant =
     Agrees top base 0 (bare structs tops) sig.result (Local 0) m s (meant vs s) (go_all sig.code.steps base m)
 
 -- a function with a signature
-one_agrees : (top : ℕ) (l : Library) (structs : List StructDef) (tops : List Holder) (sigs : ℕ → Option Signature) (f : Function) (sig : Signature) → ExpressionsAgree → Calls top l structs tops sigs → HasSignature structs tops sigs f sig →
+one_agrees : (top : ℕ) (l : Library) (structs : List StructDef) (tops : List Holder) (sigs : ℕ → Option Signature) (f : Function) (sig : Signature) →
+    ExpressionsAgree → Calls top l structs tops sigs → HasSignature structs tops sigs f sig →
     CallAgrees top structs tops sig (called_fun f.params (run_body l f.body))
 one_agrees top l structs tops sigs f sig agree c h base vs m s b =
     let g : Scope = at_top structs tops sigs in
@@ -75,12 +77,15 @@ one_agrees top l structs tops sigs f sig agree c h base vs m s b =
     })))
 
 -- a choice between one more function and those before it
-picked : (b : Bool) (top : ℕ) (structs : List StructDef) (tops : List Holder) (new old : List Val → State → Eval) (sig other : Option Signature) (f : Signature) → pick b sig other ≡ Some f →
-    (sig ≡ Some f → CallAgrees top structs tops f new) → (other ≡ Some f → CallAgrees top structs tops f old) → CallAgrees top structs tops f (pick b new old)
+picked : (b : Bool) (top : ℕ) (structs : List StructDef) (tops : List Holder) (new old : List Val → State → Eval) (sig other : Option Signature)
+    (f : Signature) → pick b sig other ≡ Some f →
+    (sig ≡ Some f → CallAgrees top structs tops f new) → (other ≡ Some f → CallAgrees top structs tops f old) →
+    CallAgrees top structs tops f (pick b new old)
 picked true top structs tops new old sig other f e a c = a e
 picked false top structs tops new old sig other f e a c = c e
 
-with_signature : (top : ℕ) (l : Library) (structs : List StructDef) (tops : List Holder) (sigs : ℕ → Option Signature) (f : Function) (o : Option Signature) (sig : Signature) → ExpressionsAgree → Calls top l structs tops sigs →
+with_signature : (top : ℕ) (l : Library) (structs : List StructDef) (tops : List Holder) (sigs : ℕ → Option Signature) (f : Function)
+    (o : Option Signature) (sig : Signature) → ExpressionsAgree → Calls top l structs tops sigs →
     FitsSignature structs tops sigs f o → o ≡ Some sig → CallAgrees top structs tops sig (called_fun f.params (run_body l f.body))
 with_signature top l structs tops sigs f None sig agree c h e = absurd (cc)
 with_signature top l structs tops sigs f (Some sig') sig agree c h e =
@@ -88,8 +93,10 @@ with_signature top l structs tops sigs f (Some sig') sig agree c h e =
     one_agrees top l structs tops sigs f sig agree c (subst (HasSignature structs tops sigs f) same h)
 
 -- one more function
-one_more_agrees : (top n : ℕ) (blanks : List Val) (funs : Funs) (structs : List StructDef) (tops : List Holder) (sigs : ℕ → Option Signature) (f : Function) (sig : Option Signature) → ExpressionsAgree → FitsSignature structs tops sigs f sig →
-    Calls top (record { blanks = blanks; funs = funs }) structs tops sigs → Calls top (record { blanks = blanks; funs = one_more_fun blanks funs n f }) structs tops (one_more_signature sigs n sig)
+one_more_agrees : (top n : ℕ) (blanks : List Val) (funs : Funs) (structs : List StructDef) (tops : List Holder) (sigs : ℕ → Option Signature)
+    (f : Function) (sig : Option Signature) → ExpressionsAgree → FitsSignature structs tops sigs f sig →
+    Calls top (record { blanks = blanks; funs = funs }) structs tops sigs →
+    Calls top (record { blanks = blanks; funs = one_more_fun blanks funs n f }) structs tops (one_more_signature sigs n sig)
 one_more_agrees top n blanks funs structs tops sigs f sig agree h c =
     let l : Library = record { blanks = blanks; funs = funs } in
     record {
@@ -100,8 +107,10 @@ one_more_agrees top n blanks funs structs tops sigs f sig agree h c =
           (λ z. with_signature top l structs tops sigs f sig g agree c h z) (λ z. c.agree k g z);
     }
 
-more_agree : (top n : ℕ) (blanks : List Val) (funs : Funs) (structs : List StructDef) (tops : List Holder) (sigs : ℕ → Option Signature) (fs : List Function) (more : List (Option Signature)) → ExpressionsAgree → HaveSignatures structs tops sigs n fs more →
-    Calls top (record { blanks = blanks; funs = funs }) structs tops sigs → Calls top (record { blanks = blanks; funs = more_funs blanks funs n fs }) structs tops (more_signatures sigs n more)
+more_agree : (top n : ℕ) (blanks : List Val) (funs : Funs) (structs : List StructDef) (tops : List Holder) (sigs : ℕ → Option Signature)
+    (fs : List Function) (more : List (Option Signature)) → ExpressionsAgree → HaveSignatures structs tops sigs n fs more →
+    Calls top (record { blanks = blanks; funs = funs }) structs tops sigs →
+    Calls top (record { blanks = blanks; funs = more_funs blanks funs n fs }) structs tops (more_signatures sigs n more)
 more_agree top n blanks funs structs tops sigs [] [] agree h c = c
 more_agree top n blanks funs structs tops sigs [] (sig ∷ more) agree h c = absurd h
 more_agree top n blanks funs structs tops sigs (f ∷ fs) [] agree h c = absurd h

@@ -1,5 +1,5 @@
 -- Values with another value at a path into them, and their cells.
-use Rattle.std.specs.Prelude.{ℕ, ◌+◌, ◌*◌, ◌<◌, ◌≤◌, ℤ, pos, Bool, true, false, List, [], ◌∷◌, ◌++◌, Option, Some, None, ◌≡◌, refl, take, drop, length, nat_le, slice_get, slice_index_or}
+use Rattle.std.specs.Prelude.{ℕ, ◌+◌, ◌*◌, ◌<◌, ◌≤◌, ℤ, Bool, true, false, List, [], ◌∷◌, ◌++◌, Some, ◌≡◌, refl, take, drop, length, nat_le, slice_index_or}
 use Rattle.std.proofs.Common.{sym, ap, ◌∙◌, arith, subst}
 use Rattle.std.proofs.lemmas.Option.{get_or_from_slice_get}
 use Rattle.zir_tree.specs.declared.value.Val.{Val, Unit as UnitVal, List as Vals}
@@ -9,13 +9,13 @@ use Rattle.zir_tree.specs.declared.types.Ty.{Ty}
 use Rattle.zir_tree.specs.declared.types.StructDef.{StructDef}
 use Rattle.zir_meaning.specs.Values.{parts}
 use Rattle.zir_meaning.specs.Operators.{part_of, with_part}
-use Rattle.zir_meaning.specs.Evaluation.{element, range, range_if}
-use Rattle.zir_meaning.specs.Statements.{Step, ToElement, ToRange, ToPart, overwritten, replaced}
+use Rattle.zir_meaning.specs.Evaluation.{element, range_if}
+use Rattle.zir_meaning.specs.Statements.{Step, ToElement, ToRange, ToPart, replaced}
 use Rattle.zir_cells.specs.Cells.{cells_of}
 use Rattle.zir_cells.specs.Layout.{layout_of}
 use Rattle.zir_shapes.specs.Shapes.{Shaped}
 use Rattle.zir_shapes.specs.Offsets.{array_type, plain_type, overlaid}
-use Rattle.zir_shapes.specs.Laws.{Stands, Found, Has}
+use Rattle.zir_shapes.specs.Laws.{Stands, Has}
 use Rattle.zir_shapes.proofs.Fitting.{sizes-fit}
 use Rattle.zir_shapes.proofs.Slicing.{elements-stand, ranges-stand, elements-replaced, ranges-replaced}
 use Rattle.zir_shapes.proofs.StructFields.{fields-replaced}
@@ -48,7 +48,8 @@ writes_all ds t = record {
 }
 
 -- cells over a part of those of a part
-inside : (ds : List StructDef) (t : Ty) (v new : Val) (cells : List ℤ) (o k size : ℕ) → Stands ds t v cells o → k + size ≤ layout_of ds t → length (cells_of new) ≡ size → overlaid cells o (overlaid (cells_of v) k (cells_of new)) ≡ overlaid cells (o + k) (cells_of new)
+inside : (ds : List StructDef) (t : Ty) (v new : Val) (cells : List ℤ) (o k size : ℕ) → Stands ds t v cells o → k + size ≤ layout_of ds t →
+    length (cells_of new) ≡ size → overlaid cells o (overlaid (cells_of v) k (cells_of new)) ≡ overlaid cells (o + k) (cells_of new)
 inside ds t v new cells o k size s le e =
     let f = sizes-fit ds t v s.shape in
     ap (λ xs. overlaid xs o (overlaid (cells_of v) k (cells_of new))) s.split
@@ -58,7 +59,10 @@ inside ds t v new cells o k size s le e =
     ∙ ap (λ xs. overlaid xs (o + k) (cells_of new)) (sym s.split)
 
 -- a part with another value in it, and the whole with that part
-part_replaced : (ds : List StructDef) (t u w : Ty) (old v new whole : Val) (steps : List Step) (o k : ℕ) → Writes ds u w k steps → Stands ds u v (cells_of old) o → Shaped ds w new → (Shaped ds u (replaced steps new v) → Has ds t whole (overlaid (cells_of old) o (cells_of (replaced steps new v)))) → Has ds t whole (overlaid (cells_of old) (o + k) (cells_of new))
+part_replaced : (ds : List StructDef) (t u w : Ty) (old v new whole : Val) (steps : List Step) (o k : ℕ) → Writes ds u w k steps →
+    Stands ds u v (cells_of old) o → Shaped ds w new → (Shaped ds u (replaced steps new v) →
+    Has ds t whole (overlaid (cells_of old) o (cells_of (replaced steps new v)))) →
+    Has ds t whole (overlaid (cells_of old) (o + k) (cells_of new))
 part_replaced ds t u w old v new whole steps o k writes s g f =
     let r = writes.replaces v new s.shape g in
     let a = f r.shape in
@@ -71,7 +75,8 @@ part_replaced ds t u w old v new whole steps o k writes s g f =
     }
 
 -- an element
-pub writes_element : (ds : List StructDef) (n : ℕ) (t u : Ty) (v : Val) (i k : ℕ) (steps : List Step) → Shaped ds (array_type n t) v → i < n → Writes ds t u k steps → Writes ds (array_type n t) u (i * layout_of ds t + k) (ToElement i ∷ steps)
+pub writes_element : (ds : List StructDef) (n : ℕ) (t u : Ty) (v : Val) (i k : ℕ) (steps : List Step) → Shaped ds (array_type n t) v → i < n →
+    Writes ds t u k steps → Writes ds (array_type n t) u (i * layout_of ds t + k) (ToElement i ∷ steps)
 writes_element ds n t u v i k steps shape lt writes = record {
   room =
       (let a = inside_ends ds (array_type n t) t v _ (i * layout_of ds t) shape (elements-stand ds n t v i shape lt).stands in
@@ -91,7 +96,8 @@ range_is true i k vs v e = cc
 range_is false i k vs v e = absurd (cc)
 
 -- a slice
-pub writes_range : (ds : List StructDef) (n : ℕ) (t u : Ty) (v : Val) (i len k : ℕ) (steps : List Step) → Shaped ds (array_type n t) v → i + len ≤ n → Writes ds (array_type len t) u k steps → Writes ds (array_type n t) u (i * layout_of ds t + k) (ToRange i len ∷ steps)
+pub writes_range : (ds : List StructDef) (n : ℕ) (t u : Ty) (v : Val) (i len k : ℕ) (steps : List Step) → Shaped ds (array_type n t) v → i + len ≤ n →
+    Writes ds (array_type len t) u k steps → Writes ds (array_type n t) u (i * layout_of ds t + k) (ToRange i len ∷ steps)
 writes_range ds n t u v i len k steps shape le writes = record {
   room =
       (let a = inside_ends ds (array_type n t) (array_type len t) v _ (i * layout_of ds t) shape (ranges-stand ds n t v i len shape le).stands in
@@ -107,7 +113,8 @@ writes_range ds n t u v i len k steps shape le writes = record {
 }
 
 -- a part with another value in its place
-base_part_replaced : (ds : List StructDef) (b : Base) (i : ℕ) (t : Ty) (old new : Val) → BasePartFits ds b i t → Shaped ds (plain_type b) old → Shaped ds t new →
+base_part_replaced : (ds : List StructDef) (b : Base) (i : ℕ) (t : Ty) (old new : Val) → BasePartFits ds b i t → Shaped ds (plain_type b) old →
+    Shaped ds t new →
     Has ds (plain_type b) (with_part i new old) (overlaid (cells_of old) (base_part_offset ds b i) (cells_of new))
 base_part_replaced ds UnitTy i t old new f h g = absurd f
 base_part_replaced ds BitTy i t old new f h g = absurd f
@@ -132,7 +139,8 @@ part_with ds ty i t old new f h g =
     (base_part_replaced ds ty.base i t old new f.1 (subst (λ x. Shaped ds x old) e h) g)
 
 -- a part
-pub writes_part : (ds : List StructDef) (ty t u : Ty) (i k : ℕ) (v : Val) (steps : List Step) → Shaped ds ty v → PartFits ds ty i t → Writes ds t u k steps →
+pub writes_part : (ds : List StructDef) (ty t u : Ty) (i k : ℕ) (v : Val) (steps : List Step) → Shaped ds ty v → PartFits ds ty i t →
+    Writes ds t u k steps →
     Writes ds ty u (part_offset ds ty i + k) (ToPart i ∷ steps)
 writes_part ds ty t u i k v steps shape f writes = record {
   room =

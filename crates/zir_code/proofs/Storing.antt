@@ -1,7 +1,7 @@
 -- A value is stored at a path into a variable.
-use Rattle.std.specs.Prelude.{ℕ, zero, suc, ℤ, pos, ◌+◌, ◌<◌, ◌≤◌, ◌^◌, List, [], ◌∷◌, ◌++◌, Bool, true, false, Option, Some, None, ◌≡◌, ◌⊎◌, refl, take, drop, length}
+use Rattle.std.specs.Prelude.{ℕ, ℤ, ◌+◌, ◌<◌, ◌≤◌, ◌^◌, List, [], ◌∷◌, ◌++◌, false, Some, ◌≡◌, ◌⊎◌, refl, take, drop, length}
 use Rattle.std.proofs.Common.{ap, ◌∙◌, sym, subst, arith, inl, inr}
-use Rattle.std.proofs.lemmas.List.{length-append, length-take-le, length-drop, take-append-drop, drop-drop}
+use Rattle.std.proofs.lemmas.List.{length-take-le, length-drop, take-append-drop, drop-drop}
 use Rattle.zir_tree.specs.declared.value.Val.{Val, Unit as UnitVal}
 use Rattle.zir_tree.specs.declared.types.Ty.{Ty}
 use Rattle.zir_tree.specs.declared.stmt.Access.{Access}
@@ -22,13 +22,13 @@ use Rattle.zir_expr.specs.Memory.{Done, moved, from_base, place_of}
 use Rattle.zir_expr.specs.Memory.Frames.{Memory}
 use Rattle.zir_code.specs.declared.scope.Holder.{Holder}
 use Rattle.zir_code.specs.Scopes.{Scope, variable, shifted}
-use Rattle.zir_code.specs.Types.{part_type, part_offset, cells_for}
+use Rattle.zir_code.specs.Types.{part_type, part_offset}
 use Rattle.zir_code.specs.Typing.{SpotFits, HolderFits}
 use Rattle.zir_code.specs.Holding.{At, Holds, Kept, StandsAt}
 use Rattle.zir_code.specs.Statements.{has_index, along_shift}
 use Rattle.zir_code.specs.Fine.{SoleIn, AlongFits, AgreesStmt}
-use Rattle.zir_code.proofs.Cells.{cell, at_front, at_back, at_both, at_same}
-use Rattle.zir_code.proofs.Kept.{low_place, Changed, changed_both, variable_found}
+use Rattle.zir_code.proofs.Cells.{at_front, at_back, at_both, at_same}
+use Rattle.zir_code.proofs.Kept.{low_place, Changed, variable_found}
 use Rattle.zir_code.proofs.Moves.{Moved, moves, moved_at}
 use Rattle.zir_code.proofs.Stores.{assigned_holds, assigned_same}
 use Rattle.zir_code.proofs.Places.{part_stands}
@@ -43,7 +43,8 @@ three_parts i k xs =
     ∙ ap (λ ys. take i xs ++ ys) (sym (take-append-drop k (drop i xs)) ∙ ap (λ ys. take k (drop i xs) ++ ys) (drop-drop k i xs))
 
 -- cells over a part of others that stand in memory
-overlaid_at : (low high p o : ℕ) (xs ys : List ℤ) (m m' : Memory) → o + length ys ≤ length xs → low ≡ p + o → high ≡ p + o + length ys → Changed low high m m' → At m.cells p xs → At m'.cells (p + o) ys → At m'.cells p (overlaid xs o ys)
+overlaid_at : (low high p o : ℕ) (xs ys : List ℤ) (m m' : Memory) → o + length ys ≤ length xs → low ≡ p + o → high ≡ p + o + length ys →
+    Changed low high m m' → At m.cells p xs → At m'.cells (p + o) ys → At m'.cells p (overlaid xs o ys)
 overlaid_at low high p o xs ys m m' le e f c a b =
     let front : List ℤ = take o xs in
     let mid : List ℤ = take (length ys) (drop o xs) in
@@ -51,12 +52,15 @@ overlaid_at low high p o xs ys m m' le e f c a b =
     let n : length front ≡ o = length-take-le o xs (omega arith) in
     let k : length mid ≡ length ys = length-take-le (length ys) (drop o xs) (omega (arith, length-drop o xs)) in
     let all : At m.cells p (front ++ (mid ++ back)) = subst (At m.cells p) (three_parts o (length ys) xs) a in
-    let later : At m.cells (p + length front + length mid) back = at_back m.cells (p + length front) mid back (at_back m.cells p front (mid ++ back) all) in
+    let later : At m.cells (p + length front + length mid) back = at_back m.cells (p + length front) mid back
+    (at_back m.cells p front (mid ++ back) all) in
     at_both m'.cells p front (ys ++ back)
-    (at_same m.cells m'.cells p (p + length front) p front c.size (λ i q r. c.others i (inl (omega arith))) (omega arith) (omega arith) (at_front m.cells p front (mid ++ back) all))
+    (at_same m.cells m'.cells p (p + length front) p front c.size (λ i q r. c.others i (inl (omega arith))) (omega arith) (omega arith)
+    (at_front m.cells p front (mid ++ back) all))
     (at_both m'.cells (p + length front) ys back (subst (λ i. At m'.cells i ys) (let z : p + o ≡ p + length front = omega arith in z) b)
     (subst (λ i. At m'.cells i back) (let z : p + length front + length mid ≡ p + length front + length ys = omega arith in z)
-    (at_same m.cells m'.cells (p + length front + length mid) (p + length front + length mid + length back) (p + length front + length mid) back c.size
+    (at_same m.cells m'.cells (p + length front + length mid) (p + length front + length mid + length back)
+    (p + length front + length mid) back c.size
     (λ i q r. c.others i (inr (omega arith))) (omega arith) (omega arith) later)))
 
 -- a change of fewer cells
@@ -77,21 +81,27 @@ pub record Ready (top base d n : ℕ) (g : Scope) (t : Ty) (v : Val) (y : Spot) 
   pub apart : (n ≤ 1) ⊎ (base + d ≤ place_of base y)
 
 -- it is still ready after code that leaves it
-pub ready_kept : (top base d n : ℕ) (g : Scope) (t : Ty) (v : Val) (y : Spot) (m m' : Memory) (s s' : State) → Kept top base (d + n) g m m' s s' → Ready top base d n g t v y m → Ready top base d n g t v y m'
+pub ready_kept : (top base d n : ℕ) (g : Scope) (t : Ty) (v : Val) (y : Spot) (m m' : Memory) (s s' : State) → Kept top base (d + n) g m m' s s' →
+    Ready top base d n g t v y m → Ready top base d n g t v y m'
 ready_kept top base d n g t v y m m' s s' k r =
     let e = r.size in
     let f = sizes-fit g.structs t v r.stands.shape in
     let b = r.before in
     record {
       size = r.size;
-      stands = record { shape = r.stands.shape; cells = at_same m.cells m'.cells top (base + (d + n)) (place_of base y) (cells_of v) k.size k.same r.after (omega arith) r.stands.cells };
+      stands = record {
+        shape = r.stands.shape;
+        cells = at_same m.cells m'.cells top (base + (d + n)) (place_of base y)
+            (cells_of v) k.size k.same r.after (omega arith) r.stands.cells;
+      };
       after = r.after;
       before = r.before;
       apart = r.apart;
     }
 
 -- a variable ends before the free cells
-sole_before : (top base d n : ℕ) (g : Scope) (m : Memory) (s : State) (id : ℕ) (v : Holder) → variable g id ≡ Some v → HolderFits g n v → Holds top base d n g m s → place_of base v.spot + v.cells ≤ base + d
+sole_before : (top base d n : ℕ) (g : Scope) (m : Memory) (s : State) (id : ℕ) (v : Holder) → variable g id ≡ Some v → HolderFits g n v →
+    Holds top base d n g m s → place_of base v.spot + v.cells ≤ base + d
 sole_before top base d n g m s id v q fits h =
     let f = variable_found top base d n g m s id v h q in
     let b = f.before in
@@ -100,9 +110,12 @@ sole_before top base d n g m s id v q fits h =
     omega arith
 
 -- a value goes so many cells behind the first of a variable
-pub store_agrees : (top base d n room k : ℕ) (g : Scope) (id : ℕ) (v : Holder) (t : Ty) (w : Val) (y : Spot) (steps : List Way) (m : Memory) (s : State) →
-    variable g id ≡ Some v → SoleIn g id v → HolderFits g room v → d + n ≤ room → Holds top base d room g m s → Ready top base d n g t w y m → Writes g.structs v.ty t k steps →
-    AgreesStmt top base d room g m (Got UnitVal (assign id (replaced steps w (look_up s.store id)) s)) (Done (moved n (place_of base v.spot + k) (place_of base y) m))
+pub store_agrees : (top base d n room k : ℕ) (g : Scope) (id : ℕ) (v : Holder) (t : Ty) (w : Val) (y : Spot) (steps : List Way) (m : Memory)
+    (s : State) →
+    variable g id ≡ Some v → SoleIn g id v → HolderFits g room v → d + n ≤ room → Holds top base d room g m s → Ready top base d n g t w y m →
+    Writes g.structs v.ty t k steps →
+    AgreesStmt top base d room g m (Got UnitVal (assign id (replaced steps w (look_up s.store id)) s))
+    (Done (moved n (place_of base v.spot + k) (place_of base y) m))
 store_agrees top base d n room k g id v t w y steps m s q sole fits le h r writes =
     let f = variable_found top base d room g m s id v h q in
     let p : ℕ = place_of base v.spot in
@@ -123,20 +136,24 @@ store_agrees top base d n room k g id v t w y steps m s q sole fits le h r write
     let c : Changed p (p + v.cells) m m' = changed_wider (p + k) (p + k + n) p (p + v.cells) m m' (omega arith) (omega arith) by.changed in
     record {
       holds = assigned_holds top base d room g m m' s id v (replaced steps w (look_up s.store id)) sole has.shape
-          (subst (At m'.cells p) (sym has.cells) (overlaid_at (p + k) (p + k + n) p k (cells_of (look_up s.store id)) (cells_of w) m m' (omega arith) refl (omega arith) by.changed f.cells there)) c h;
+          (subst (At m'.cells p) (sym has.cells) (overlaid_at (p + k) (p + k + n) p k (cells_of (look_up s.store id)) (cells_of w) m m'
+          (omega arith) refl (omega arith) by.changed f.cells there)) c h;
       same = λ i a b. assigned_same top base d room g m m' s id v i sole c h a b;
       size = c.size;
     } where
-      apart : (n ≤ 1) ⊎ (base + d ≤ place_of base y) → (place_of base y < place_of base v.spot + k) ⊎ (place_of base v.spot + k ≤ place_of base y) → place_of base v.spot + v.cells ≤ base + d →
+      apart : (n ≤ 1) ⊎ (base + d ≤ place_of base y) → (place_of base y < place_of base v.spot + k) ⊎ (place_of base v.spot + k ≤ place_of base y) →
+          place_of base v.spot + v.cells ≤ base + d →
           (place_of base v.spot + k ≤ place_of base y) ⊎ (place_of base y + n ≤ place_of base v.spot + k)
       apart (inl few) (inl lt) end = inr (omega arith)
       apart (inl few) (inr ge) end = inl ge
       apart (inr behind) other end = inl (let a = writes.room in let b = fits.cells in omega arith)
 
 -- the spot so many cells behind another
-pub shifted_place : (base n k : ℕ) (spot : Spot) (size : ℕ) → SpotFits n spot size → k ≤ size → base + n < 2 ^ 63 → place_of base (shifted spot k) ≡ place_of base spot + k
+pub shifted_place : (base n k : ℕ) (spot : Spot) (size : ℕ) → SpotFits n spot size → k ≤ size → base + n < 2 ^ 63 →
+    place_of base (shifted spot k) ≡ place_of base spot + k
 shifted_place base n k (Top o) size f le small = refl
-shifted_place base n k (Local o) size f le small = low_place base (o + k) (omega arith) ∙ (let a : from_base base o ≡ base + o = low_place base o (omega arith) in omega arith)
+shifted_place base n k (Local o) size f le small = low_place base (o + k) (omega arith)
+    ∙ (let a : from_base base o ≡ base + o = low_place base o (omega arith) in omega arith)
 
 -- a path without an index means its parts, whatever the state
 pub record Parts (l : Library) (g : Scope) (ty t : Ty) (path : List Access) (old : Val) : Type 0 where
@@ -144,8 +161,14 @@ pub record Parts (l : Library) (g : Scope) (ty t : Ty) (path : List Access) (old
   pub writes : Writes g.structs ty t (along_shift g ty path) steps
   pub is : (s : State) (next : List Way → State → Eval) → along l path old s next ≡ next steps s
 
-pub parts_alone : (path : List Access) (l : Library) (g : Scope) (o n : ℕ) (ty t : Ty) (old : Val) → has_index path ≡ false → AlongFits g o n ty path t → Shaped g.structs ty old → Parts l g ty t path old
-parts_alone [] l g o n ty t old b f h = record { steps = []; writes = subst (λ t. Writes g.structs ty t 0 []) f (writes_all g.structs ty); is = λ s next. refl }
+pub parts_alone : (path : List Access) (l : Library) (g : Scope) (o n : ℕ) (ty t : Ty) (old : Val) → has_index path ≡ false →
+    AlongFits g o n ty path t → Shaped g.structs ty old → Parts l g ty t path old
+parts_alone [] l g o n ty t old b f h = record {
+  steps = [];
+  writes = subst (λ t. Writes g.structs ty t 0 []) f (writes_all g.structs ty);
+  is =
+      λ s next. refl;
+}
 parts_alone (Index e p ∷ path) l g o n ty t old b f h = absurd (cc)
 parts_alone (Slice e k p ∷ path) l g o n ty t old b f h = absurd (cc)
 parts_alone (Part name i p ∷ path) l g o n ty t old b f h =
