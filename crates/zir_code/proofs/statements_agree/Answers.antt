@@ -1,12 +1,6 @@
-use Rattle.zir_code.proofs.Along.{along_agrees}
-use Rattle.zir_code.proofs.Blank.{blanks_go}
-use Rattle.zir_code.proofs.Bodies.{body_agrees}
-use Rattle.zir_code.proofs.Statements.{statement_agrees}
-use Rattle.zir_code.proofs.Loops.{for_agrees}
-use Rattle.zir_code.proofs.Scopes.{in_scope}
-use Rattle.zir_code.proofs.Assigning.{assigns}
-use Rattle.zir_code.proofs.Storing.{store_agrees}
+use Rattle.zir_code.proofs.Simulation.{coded}
+use Rattle.zir_code.proofs.Bodies.{lists_agree}
 use Rattle.zir_code.proofs.statements_agree.Goals as goal
 
 pub returns : goal.returns
-returns c = ?
+returns c = lists_agree (λ top base d n l g calls t e m s has room h. coded top base n l g calls t e d m s room has h)
