@@ -48,10 +48,10 @@ tops_order base base' low high (d ∷ ds) a o =
       tops_order base base' (place_of base' d.spot + d.cells) high ds a.1 (subst (λ p. InOrder base (p + d.cells) high ds) e o.1),
     )
 
-no_tick : (used limit : ℕ) → nat_lt used limit ≡ true → limit ≡ used → ⊥
+pub no_tick : (used limit : ℕ) → nat_lt used limit ≡ true → limit ≡ used → ⊥
 no_tick used limit e f = grind (arith, nat_tests)
 
-a_tick : (used limit : ℕ) → nat_lt used limit ≡ false → used < limit → ⊥
+pub a_tick : (used limit : ℕ) → nat_lt used limit ≡ false → used < limit → ⊥
 a_tick used limit e f = grind (arith, nat_tests)
 
 ticked_of : (b : Bool) (P : Val → State → Memory → Type 0) (Q : State → Memory → Type 0) (top base d : ℕ) (g : Scope) (m0 m : Memory) (s0 s : State)

@@ -60,6 +60,13 @@ below_room k room h = grind (arith, nat_tests)
 past_room : (k room : ℕ) → room ≤ k → nat_lt k room ≡ false
 past_room k room h = grind (arith, nat_tests)
 
+-- an index is inside, or not
+pub in_room : (k room : ℕ) → (k < room) ⊎ (room ≤ k)
+in_room zero zero = inr (omega arith)
+in_room zero (suc room) = inl (omega arith)
+in_room (suc k) zero = inr (omega arith)
+in_room (suc k) (suc room) = elim (in_room k room) [ inl h ↦ inl (omega arith) | inr h ↦ inr (omega arith) ]
+
 -- an index inside gives the offset of its element
 pub offset_inside : (o k : ℕ) (e : Elements) → k < e.room → o + k * e.size < 2 ^ 63 → offset_of (pos o) (pos k) e ≡ Ok (pos (o + k * e.size))
 offset_inside o k e lt h =

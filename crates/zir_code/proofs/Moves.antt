@@ -36,7 +36,7 @@ none_moved to from m = record {
   changed = record { others = λ i o. refl; size = refl; used = refl; limit = refl };
 }
 
-first_or_later : (k : ℕ) → (k ≡ 0) ⊎ ((j : ℕ) × (k ≡ suc j))
+pub first_or_later : (k : ℕ) → (k ≡ 0) ⊎ ((j : ℕ) × (k ≡ suc j))
 first_or_later zero = inl refl
 first_or_later (suc j) = inr (j, refl)
 

@@ -38,7 +38,7 @@ use Rattle.zir_code.proofs.Operating.{IsCell, num_is, cell_from}
 use Rattle.zir_code.proofs.Calm.{Still, still_both}
 use Rattle.zir_code.proofs.Complexes.{place_shifted}
 use Rattle.zir_code.proofs.Places.{part_stands, inside_ends}
-use Rattle.zir_code.proofs.Locating.{Access, offset_inside, offset_outside, low_address}
+use Rattle.zir_code.proofs.Locating.{Access, offset_inside, offset_outside, low_address, in_room}
 
 -- a value stands behind a root, as many cells as the cell o says; its cells stay while later code changes none before o, and no variable where it is
 -- said that nothing does
@@ -176,12 +176,6 @@ traps_at top base d o n g u t before after root e v choose m m1 m2 s s1 s2 k w n
       refl,
       record { tops = l.tops; tops_in = l.tops_in; locals = l.locals; same = l.same; size = l.size; used = l.used; limit = l.limit },
     ))
-
-in_room : (k room : ℕ) → (k < room) ⊎ (room ≤ k)
-in_room zero zero = inr (omega arith)
-in_room zero (suc room) = inl (omega arith)
-in_room (suc k) zero = inr (omega arith)
-in_room (suc k) (suc room) = elim (in_room k room) [ inl h ↦ inl (omega arith) | inr h ↦ inr (omega arith) ]
 
 locates : (top base d o n : ℕ) (g : Scope) (u t : Ty) (before after : Bool) (root : Spot) (e : Elements) (v : Val) (choose : ℤ → Option Val)
     (m m1 m2 : Memory) (s s1 s2 : State) (k : ℤ) → Steps top base d o n g u t before after root e v choose m m1 m2 s s1 s2 →

@@ -1,5 +1,5 @@
 -- Values of variables without initial values.
-use Rattle.std.specs.Prelude.{ℕ, zero, suc, ◌+◌, ◌*◌, ◌<◌, ◌≤◌, ℤ, pos, Bool, true, false, List, [], ◌∷◌, ◌++◌, ◌≡◌, refl, length, map, nat_eq, slice_index, slice_index_or, sum_by, replicate}
+use Rattle.std.specs.Prelude.{ℕ, zero, suc, ◌+◌, ◌*◌, ◌<◌, pos, Bool, true, false, List, [], ◌∷◌, ◌++◌, ◌≡◌, refl, length, map, nat_eq, slice_index, slice_index_or, sum_by}
 use Rattle.std.proofs.Common.{sym, ap, ◌∙◌, arith, subst}
 use Rattle.std.proofs.lemmas.Bool.{eqb-true, eqb-false}
 use Rattle.std.proofs.lemmas.List.{length-append, get_or_append_left}
@@ -8,7 +8,6 @@ use lib.ListN.{replicate-append-replicate}
 use Rattle.zir_tree.specs.declared.value.Val.{Val, Unit as UnitVal, List as Vals}
 use Rattle.zir_tree.specs.declared.types.Base.{Base}
 use Rattle.zir_tree.specs.declared.types.Base.TheVariants.{Unit as UnitTy, Bit as BitTy, Bool as BoolTy, Int8, Int16, Int32, Int64, Complex16, Complex32, Struct as StructTy}
-use Rattle.zir_tree.specs.declared.types.Ty.{Ty}
 use Rattle.zir_tree.specs.declared.types.FieldDef.{FieldDef}
 use Rattle.zir_tree.specs.declared.types.StructDef.{StructDef}
 use Rattle.zir_cells.specs.Cells.{cells_of}
@@ -122,20 +121,19 @@ struct-blank blanks d = Vals (map (λ f. blank blanks f.ty) d.fields)
 one-more-shaped : (kinds : Kinds) (n : ℕ) (sizes : List ℕ) (blanks : List Val) → Ready kinds n sizes blanks → (d : StructDef) → FieldsBefore n d.fields →
     (k : ℕ) → k < suc n → (b : Bool) → nat_eq k n ≡ b → (v : Val) → v ≡ slice_index_or (blanks ++ struct-blank blanks d ∷ []) k UnitVal →
     either_holds b (StructShape kinds d.fields v) (kinds k v)
-one-more-shaped kinds n sizes blanks r d before k lt true e v is =
-    (
-      map (λ f. blank blanks f.ty) d.fields,
-      is ∙ value-last blanks n k (struct-blank blanks d) r.all_blanks (eqb-true k n e),
-      fields-shape kinds n sizes blanks r d.fields before
-    )
+one-more-shaped kinds n sizes blanks r d before k lt true e v is = (
+  map (λ f. blank blanks f.ty) d.fields,
+  is ∙ value-last blanks n k (struct-blank blanks d) r.all_blanks (eqb-true k n e),
+  fields-shape kinds n sizes blanks r d.fields before,
+)
 one-more-shaped kinds n sizes blanks r d before k lt false e v is =
     let within : k < n = below (eqb-false k n e) in
     let same : slice_index_or blanks k UnitVal ≡ v =
-        sym (is ∙ get_or_append_left blanks (struct-blank blanks d ∷ []) UnitVal k (omega (arith, within, r.all_blanks))) in
+    sym (is ∙ get_or_append_left blanks (struct-blank blanks d ∷ []) UnitVal k (omega (arith, within, r.all_blanks))) in
     subst (λ w. kinds k w) same (r.shape k within)
   where
-  below : (k ≡ n → ⊥) → k < n
-  below other = omega (arith, lt, other)
+    below : (k ≡ n → ⊥) → k < n
+    below other = omega (arith, lt, other)
 
 one-more-zeros : (kinds : Kinds) (n : ℕ) (sizes : List ℕ) (blanks : List Val) → Ready kinds n sizes blanks → (d : StructDef) → FieldsBefore n d.fields →
     (k : ℕ) → k < suc n → (b : Bool) → nat_eq k n ≡ b →
@@ -153,8 +151,8 @@ one-more-zeros kinds n sizes blanks r d before k lt false e =
     ∙ r.cells k within
     ∙ ap zeros (sym (get_or_append_left sizes (sum_by (λ f. cells_in sizes f.ty) d.fields ∷ []) 0 k (omega (arith, within, r.all_sizes))))
   where
-  below : (k ≡ n → ⊥) → k < n
-  below other = omega (arith, lt, other)
+    below : (k ≡ n → ⊥) → k < n
+    below other = omega (arith, lt, other)
 
 one-more-ready : (kinds : Kinds) (n : ℕ) (sizes : List ℕ) (blanks : List Val) → Ready kinds n sizes blanks → (d : StructDef) → FieldsBefore n d.fields →
     Ready (one_more_shape kinds n d) (suc n) (sizes ++ sum_by (λ f. cells_in sizes f.ty) d.fields ∷ []) (blanks ++ struct-blank blanks d ∷ [])
@@ -183,7 +181,7 @@ pub blanks-have : BlanksHave
 blanks-have ds t o before =
     let z : 0 + length ds ≡ length ds = omega arith in
     let r : Ready (more_shapes no_kinds 0 ds) (length ds) (struct_cells [] ds) (more_blanks [] ds) =
-        subst (λ m. Ready (more_shapes no_kinds 0 ds) m (struct_cells [] ds) (more_blanks [] ds)) z (structs-ready ds no_kinds 0 [] [] o none-ready) in
+    subst (λ m. Ready (more_shapes no_kinds 0 ds) m (struct_cells [] ds) (more_blanks [] ds)) z (structs-ready ds no_kinds 0 [] [] o none-ready) in
     record {
       shape = lengths-shape (more_shapes no_kinds 0 ds) (length ds) (struct_cells [] ds) (more_blanks [] ds) r t.lengths t.base before;
       cells = lengths-zeros (more_shapes no_kinds 0 ds) (length ds) (struct_cells [] ds) (more_blanks [] ds) r t.lengths t.base before;

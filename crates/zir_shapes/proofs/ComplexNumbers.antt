@@ -1,16 +1,15 @@
 -- The parts of complex numbers.
-use Rattle.std.specs.Prelude.{ℕ, zero, suc, ℤ, pos, Bool, true, false, List, [], ◌∷◌, ◌++◌, ◌≡◌, refl}
+use Rattle.std.specs.Prelude.{ℕ, zero, suc, true, [], ◌∷◌, ◌++◌, ◌≡◌, refl}
 use Rattle.std.proofs.Common.{ap, ◌∙◌, true≢false, sym}
 use Rattle.zir_tree.specs.declared.value.Val.{Val, Num, Pair}
 use Rattle.zir_tree.specs.declared.types.Base.{Base}
 use Rattle.zir_tree.specs.declared.types.Base.TheVariants.{Unit as UnitTy, Bit as BitTy, Bool as BoolTy, Int8, Int16, Int32, Int64, Complex16, Complex32, Struct as StructTy}
-use Rattle.zir_tree.specs.declared.types.StructDef.{StructDef}
 use Rattle.zir_cells.specs.Cells.{cells_of}
 use Rattle.zir_meaning.specs.Values.{Kinds}
-use Rattle.zir_meaning.specs.Operators.{complex_part, with_complex_part, part_of, with_part}
+use Rattle.zir_meaning.specs.Operators.{complex_part, part_of, with_part}
 use Rattle.zir_shapes.specs.Shapes.{IsNumber, IsPair, BaseShape, shapes_of}
-use Rattle.zir_shapes.specs.Offsets.{plain_type, is_whole, complex_offset, overlaid}
-use Rattle.zir_shapes.specs.Laws.{Stands, ComplexPartsStand, ComplexPartsReplaced}
+use Rattle.zir_shapes.specs.Offsets.{is_whole, overlaid}
+use Rattle.zir_shapes.specs.Laws.{ComplexPartsStand, ComplexPartsReplaced}
 
 -- a number has the shape of every type of whole numbers
 whole-shape : (kinds : Kinds) (b : Base) (v : Val) → is_whole b ≡ true → IsNumber v → BaseShape kinds b v
@@ -50,5 +49,5 @@ complex-parts-replaced zero old new h g =
     ((g.0, h.1, e), ap cells_of e ∙ ap (λ zs. overlaid zs 0 (g.0 ∷ [])) (sym (ap cells_of h.2)) ∙ ap (λ w. overlaid (cells_of old) 0 (cells_of w)) (sym g.1))
 complex-parts-replaced (suc k) old new h g =
     let e : with_part (suc k) new old ≡ Pair h.0 g.0 =
-        ap (with_part (suc k) new) h.2 ∙ ap (λ w. with_part (suc k) w (Pair h.0 h.1)) g.1 in
+    ap (with_part (suc k) new) h.2 ∙ ap (λ w. with_part (suc k) w (Pair h.0 h.1)) g.1 in
     ((h.0, g.0, e), ap cells_of e ∙ ap (λ zs. overlaid zs 1 (g.0 ∷ [])) (sym (ap cells_of h.2)) ∙ ap (λ w. overlaid (cells_of old) 1 (cells_of w)) (sym g.1))

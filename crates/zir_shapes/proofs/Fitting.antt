@@ -1,19 +1,18 @@
 -- Values have as many cells as their types.
-use Rattle.std.specs.Prelude.{ℕ, zero, suc, ◌+◌, ◌-◌, ◌*◌, ◌<◌, ◌≤◌, ◌⊎◌, Bool, true, false, ℤ, List, [], ◌∷◌, ◌++◌, ◌≡◌, refl, length, nat_eq, get_or, slice_index, sum_by, map}
+use Rattle.std.specs.Prelude.{ℕ, zero, suc, ◌+◌, ◌-◌, ◌*◌, ◌<◌, Bool, true, false, List, [], ◌∷◌, ◌++◌, ◌≡◌, refl, length, nat_eq, slice_index, sum_by}
 use Rattle.std.proofs.Common.{sym, ap, ◌∙◌, arith, subst}
-use Rattle.std.proofs.lemmas.Bool.{eqb-true, eqb-false}
+use Rattle.std.proofs.lemmas.Bool.{eqb-true}
 use Rattle.std.proofs.lemmas.List.{length-append, get_or_append_left}
 use Rattle.std.proofs.lemmas.List.Sums.{sum_by-cons}
-use Rattle.zir_tree.specs.declared.value.Val.{Val, Unit as UnitVal, Bit as BitVal, Bool as BoolVal, Num, Pair, List as Vals}
+use Rattle.zir_tree.specs.declared.value.Val.{Val}
 use Rattle.zir_tree.specs.declared.types.Base.{Base}
 use Rattle.zir_tree.specs.declared.types.Base.TheVariants.{Unit as UnitTy, Bit as BitTy, Bool as BoolTy, Int8, Int16, Int32, Int64, Complex16, Complex32, Struct as StructTy}
-use Rattle.zir_tree.specs.declared.types.Ty.{Ty}
 use Rattle.zir_tree.specs.declared.types.FieldDef.{FieldDef}
 use Rattle.zir_tree.specs.declared.types.StructDef.{StructDef}
 use Rattle.zir_cells.specs.Cells.{cells_of}
-use Rattle.zir_cells.specs.Layout.{parts_in, base_cells, cells_in, struct_cells, layout_of}
+use Rattle.zir_cells.specs.Layout.{parts_in, base_cells, cells_in, struct_cells}
 use Rattle.zir_meaning.specs.Values.{Kinds, Each, no_kinds, either_holds}
-use Rattle.zir_shapes.specs.Shapes.{IsNumber, IsPair, BaseShape, LengthsShape, FieldsShape, StructShape, one_more_shape, more_shapes, Shaped}
+use Rattle.zir_shapes.specs.Shapes.{IsNumber, IsPair, BaseShape, LengthsShape, FieldsShape, StructShape, one_more_shape, more_shapes}
 use Rattle.zir_shapes.specs.Offsets.{list_cells}
 use Rattle.zir_shapes.specs.Laws.{SizesFit}
 use Rattle.zir_shapes.proofs.PartCells.{cells-list}

@@ -1,16 +1,14 @@
 -- The shapes of the first structs are among those of more of them.
-use Rattle.std.specs.Prelude.{ℕ, zero, suc, ◌+◌, ◌<◌, ◌≤◌, Bool, true, false, List, [], ◌∷◌, ◌≡◌, refl, take, length, Some, None, slice_get, nat_eq}
+use Rattle.std.specs.Prelude.{ℕ, zero, suc, ◌+◌, ◌<◌, ◌≤◌, List, [], ◌∷◌, ◌≡◌, refl, take, length, Some, slice_get}
 use Rattle.std.proofs.Common.{sym, ap, ◌∙◌, arith, subst}
 use Rattle.std.proofs.lemmas.Bool.{eq-eqb, ne_eqb}
-use Rattle.std.proofs.lemmas.List.{length-take-le}
-use Rattle.zir_tree.specs.declared.value.Val.{Val, List as Vals}
+use Rattle.zir_tree.specs.declared.value.Val.{Val}
 use Rattle.zir_tree.specs.declared.types.Base.{Base}
 use Rattle.zir_tree.specs.declared.types.Base.TheVariants.{Unit as UnitTy, Bit as BitTy, Bool as BoolTy, Int8, Int16, Int32, Int64, Complex16, Complex32, Struct as StructTy}
-use Rattle.zir_tree.specs.declared.types.Ty.{Ty}
 use Rattle.zir_tree.specs.declared.types.FieldDef.{FieldDef}
 use Rattle.zir_tree.specs.declared.types.StructDef.{StructDef}
 use Rattle.zir_meaning.specs.Values.{Kinds, Each, no_kinds, either_holds}
-use Rattle.zir_shapes.specs.Shapes.{BaseShape, LengthsShape, FieldsShape, StructShape, one_more_shape, more_shapes, shapes_of, StructsBefore, FieldsBefore, OrderedFrom, Ordered}
+use Rattle.zir_shapes.specs.Shapes.{BaseShape, LengthsShape, FieldsShape, StructShape, one_more_shape, more_shapes, shapes_of, StructsBefore, FieldsBefore, OrderedFrom}
 use Rattle.zir_shapes.proofs.Fitting.{structs-fit, none-fit}
 
 -- the shapes of a struct before these
@@ -87,7 +85,7 @@ earlier-from ds j k v lt h = by-path (shapes_of ds k v) (earlier ds j k v) (sym 
 pub earlier-likewise : (ds : List StructDef) (j k : ℕ) (w v : Val) → earlier ds j k w → shapes_of ds k v → earlier ds j k v
 earlier-likewise ds j k w v h g = earlier-from ds j k v (earlier-below ds j k w h) g
 
--- what each value is, each is that is so more weakly
+-- where each value is so, each is what follows of it
 each-map : (P Q : Val → Type 0) → ((v : Val) → P v → Q v) → (vs : List Val) → Each P vs → Each Q vs
 each-map P Q f [] h = tt
 each-map P Q f (v ∷ vs) h = (f v h.0, each-map P Q f vs h.1)
@@ -143,11 +141,12 @@ each-likewise P Q f (w ∷ ws) (v ∷ vs) e h g = (f w v h.0 g.0, each-likewise 
 pub lengths-likewise : (kinds more : Kinds) → ((k : ℕ) (w v : Val) → kinds k w → more k v → kinds k v) → (ns : List ℕ) (b : Base) (w v : Val) →
     LengthsShape kinds ns b w → LengthsShape more ns b v → LengthsShape kinds ns b v
 lengths-likewise kinds more f [] b w v h g = base-likewise kinds more f b w v h g
-lengths-likewise kinds more f (n ∷ ns) b w v h g =
-    (
-      g.0, g.1, g.2,
-      each-likewise (LengthsShape kinds ns b) (LengthsShape more ns b) (lengths-likewise kinds more f ns b) h.0 g.0 (h.2 ∙ sym g.2) h.3 g.3
-    )
+lengths-likewise kinds more f (n ∷ ns) b w v h g = (
+  g.0,
+  g.1,
+  g.2,
+  each-likewise (LengthsShape kinds ns b) (LengthsShape more ns b) (lengths-likewise kinds more f ns b) h.0 g.0 (h.2 ∙ sym g.2) h.3 g.3,
+)
 
 base-earlier : (ds : List StructDef) (j : ℕ) (b : Base) (v : Val) → StructsBefore j b → BaseShape (shapes_of ds) b v → BaseShape (earlier ds j) b v
 base-earlier ds j UnitTy v lt h = h
@@ -164,11 +163,12 @@ base-earlier ds j (StructTy k) v lt h = earlier-from ds j k v lt h
 lengths-earlier : (ds : List StructDef) (j : ℕ) (ns : List ℕ) (b : Base) (v : Val) → StructsBefore j b → LengthsShape (shapes_of ds) ns b v →
     LengthsShape (earlier ds j) ns b v
 lengths-earlier ds j [] b v lt h = base-earlier ds j b v lt h
-lengths-earlier ds j (n ∷ ns) b v lt h =
-    (
-      h.0, h.1, h.2,
-      each-map (LengthsShape (shapes_of ds) ns b) (LengthsShape (earlier ds j) ns b) (λ w g. lengths-earlier ds j ns b w lt g) h.0 h.3
-    )
+lengths-earlier ds j (n ∷ ns) b v lt h = (
+  h.0,
+  h.1,
+  h.2,
+  each-map (LengthsShape (shapes_of ds) ns b) (LengthsShape (earlier ds j) ns b) (λ w g. lengths-earlier ds j ns b w lt g) h.0 h.3,
+)
 
 -- fields that name structs before a place alone have their shapes over these
 pub fields-earlier : (ds : List StructDef) (j : ℕ) (fs : List FieldDef) (vs : List Val) → FieldsBefore j fs → FieldsShape (shapes_of ds) fs vs →

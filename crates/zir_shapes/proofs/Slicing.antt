@@ -1,7 +1,8 @@
 -- Elements and slices of arrays.
-use Rattle.std.specs.Prelude.{ℕ, zero, suc, ◌+◌, ◌-◌, ◌*◌, ◌<◌, ◌≤◌, ℤ, pos, List, [], ◌∷◌, ◌++◌, ◌≡◌, refl, take, drop, length, Some, None, slice_get, slice_set}
-use Rattle.std.proofs.Common.{sym, ap, ◌∙◌, arith, subst, append_assoc, le-leb}
+use Rattle.std.specs.Prelude.{ℕ, zero, suc, ◌+◌, ◌*◌, ◌<◌, ◌≤◌, pos, List, [], ◌∷◌, ◌++◌, ◌≡◌, refl, take, drop, length, Some, slice_get, slice_set}
+use Rattle.std.proofs.Common.{sym, ap, ◌∙◌, arith, append_assoc, le-leb}
 use Rattle.std.proofs.lemmas.Bool.{lt-leb}
+use Rattle.std.proofs.lemmas.Option.{slice_get_past}
 use Rattle.std.proofs.lemmas.List.{length-append, length-take-le, length-drop, length-set}
 use Rattle.zir_tree.specs.declared.value.Val.{Val, List as Vals}
 use Rattle.zir_tree.specs.declared.types.Ty.{Ty}
@@ -12,7 +13,7 @@ use Rattle.zir_meaning.specs.Values.{parts, Each}
 use Rattle.zir_meaning.specs.Evaluation.{element, range, range_if}
 use Rattle.zir_meaning.specs.Statements.{overwritten}
 use Rattle.zir_shapes.specs.Shapes.{Shaped}
-use Rattle.zir_shapes.specs.Offsets.{array_type, overlaid, list_cells}
+use Rattle.zir_shapes.specs.Offsets.{overlaid, list_cells}
 use Rattle.zir_shapes.specs.Laws.{ElementsStand, ElementsEnd, RangesStand, RangesEnd, ArraysHave, ElementsReplaced, RangesReplaced}
 use Rattle.zir_shapes.proofs.Overlaying.{overlaid-at}
 use Rattle.zir_shapes.proofs.PartCells.{cells-list, parts-list, cells-between, three-parts}
@@ -58,12 +59,6 @@ at P (v ∷ vs) (suc i) h lt =
           ∙ sym (append_assoc (cells_of v) (list_cells (take i vs)) (cells_of a.value ++ list_cells (drop (suc i) vs)));
     }
 
--- past the end there is none
-none-at : (vs : List Val) (i : ℕ) → length vs ≤ i → slice_get vs i ≡ None
-none-at [] i le = refl
-none-at (v ∷ vs) zero le = absurd (omega arith)
-none-at (v ∷ vs) (suc i) le = none-at vs i (omega arith)
-
 -- the cells with another value at a place
 pub cells-set : (vs : List Val) (i : ℕ) (new : Val) → i < length vs →
     list_cells (slice_set vs i new) ≡ list_cells (take i vs) ++ (cells_of new ++ list_cells (drop (suc i) vs))
@@ -97,7 +92,7 @@ elements-stand ds n t v i h lt =
 
 pub elements-end : ElementsEnd
 elements-end ds n t v i h le =
-    ap (λ w. element (parts w) (pos i)) h.1 ∙ ap (λ ws. slice_get ws i) (parts-list h.0) ∙ none-at h.0 i (omega (arith, h.2))
+    ap (λ w. element (parts w) (pos i)) h.1 ∙ ap (λ ws. slice_get ws i) (parts-list h.0) ∙ slice_get_past h.0 i (omega (arith, h.2))
 
 -- as many elements from a place on
 length-slice : (i k : ℕ) (vs : List Val) → i + k ≤ length vs → length (take k (drop i vs)) ≡ k
@@ -144,7 +139,7 @@ elements-replaced ds n t old new i h lt g =
         slice_set h.0 i new,
         ap (λ ws. Vals (slice_set ws i new)) e,
         length-set h.0 i new ∙ h.2,
-        each-set (Shaped ds t) h.0 i new h.3 g
+        each-set (Shaped ds t) h.0 i new h.3 g,
       );
       cells =
           ap (λ ws. cells_of (Vals (slice_set ws i new))) e
@@ -168,19 +163,24 @@ ranges-replaced ds n t old new i k h le g =
     let new-cells : list_cells g.0 ≡ cells_of new = sym (ap cells_of g.1 ∙ cells-list g.0) in
     let all : List Val = take i h.0 ++ (g.0 ++ back) in
     let e : Vals (overwritten i (parts new) (parts old)) ≡ Vals all =
-        ap (λ ws. Vals (overwritten i ws (parts old))) new-parts
-        ∙ ap (λ ws. Vals (overwritten i g.0 ws)) old-parts
-        ∙ ap Vals (append_assoc (take i h.0) g.0 back) in
+    ap (λ ws. Vals (overwritten i ws (parts old))) new-parts
+    ∙ ap (λ ws. Vals (overwritten i g.0 ws)) old-parts
+    ∙ ap Vals (append_assoc (take i h.0) g.0 back) in
     record {
       shape = (
         all,
         e,
         omega (
-          arith, h.2, g.2, length-append (take i h.0) (g.0 ++ back), length-append g.0 back, length-drop (i + length g.0) h.0,
-          length-take-le i h.0 (omega arith)
+          arith,
+          h.2,
+          g.2,
+          length-append (take i h.0) (g.0 ++ back),
+          length-append g.0 back,
+          length-drop (i + length g.0) h.0,
+          length-take-le i h.0 (omega arith),
         ),
         each-append (Shaped ds t) (take i h.0) (g.0 ++ back) (each-take (Shaped ds t) i h.0 h.3)
-        (each-append (Shaped ds t) g.0 back g.3 (each-drop (Shaped ds t) (i + length g.0) h.0 h.3))
+            (each-append (Shaped ds t) g.0 back g.3 (each-drop (Shaped ds t) (i + length g.0) h.0 h.3)),
       );
       cells =
           ap cells_of e
@@ -190,7 +190,7 @@ ranges-replaced ds n t old new i k h le g =
           (ap cells_of h.1 ∙ cells-list h.0 ∙ ap list_cells (three-parts i (length g.0) h.0) ∙ cells-between (take i h.0) mid back)
           (front-size ds t h.0 i h.3 (omega arith))
           (each-size (Shaped ds t) size (sizes-fit ds t) g.0 g.3
-              ∙ ap (λ m. m * size) (sym (length-slice i (length g.0) h.0 fits))
-              ∙ sym (each-size (Shaped ds t) size (sizes-fit ds t) mid each-mid))
+          ∙ ap (λ m. m * size) (sym (length-slice i (length g.0) h.0 fits))
+          ∙ sym (each-size (Shaped ds t) size (sizes-fit ds t) mid each-mid))
           ∙ ap (λ zs. overlaid (cells_of old) (i * size) zs) new-cells;
     }

@@ -1,5 +1,5 @@
 -- Fields of structs.
-use Rattle.std.specs.Prelude.{ℕ, zero, suc, ◌+◌, ◌<◌, ◌≤◌, ℤ, List, [], ◌∷◌, ◌++◌, ◌≡◌, refl, take, drop, length, Option, Some, None, slice_get, slice_set, slice_index_or, sum_by}
+use Rattle.std.specs.Prelude.{ℕ, zero, suc, ◌+◌, ◌<◌, List, [], ◌∷◌, ◌++◌, ◌≡◌, refl, take, drop, length, Option, Some, None, slice_get, slice_set, slice_index_or, sum_by}
 use Rattle.std.proofs.Common.{sym, ap, ◌∙◌, arith, subst, append_assoc}
 use Rattle.std.proofs.lemmas.List.{length-append}
 use Rattle.std.proofs.lemmas.List.Sums.{sum_by-cons}
@@ -12,7 +12,7 @@ use Rattle.zir_cells.specs.Layout.{layout_of}
 use Rattle.zir_meaning.specs.Values.{Kinds}
 use Rattle.zir_meaning.specs.Operators.{part_of, with_part}
 use Rattle.zir_shapes.specs.Shapes.{FieldsShape, LengthsShape, StructShape, shapes_of, Shaped, ShapedFields, FieldsBefore}
-use Rattle.zir_shapes.specs.Offsets.{struct_type, fields_in, fields_of, type_in, field_type, field_offset, overlaid, list_cells}
+use Rattle.zir_shapes.specs.Offsets.{struct_type, fields_in, type_in, field_type, field_offset, list_cells}
 use Rattle.zir_shapes.specs.Laws.{FieldsStand, StructsHave, FieldsReplaced}
 use Rattle.zir_shapes.proofs.Overlaying.{overlaid-at}
 use Rattle.zir_shapes.proofs.PartCells.{cells-list, part-list, with-part-list}
@@ -121,7 +121,7 @@ fields-replaced ds j k t old new h e g =
       shape = struct-from ds j s.definition (with_part k new old) s.is (
         slice_set vs k new,
         whole,
-        fields-set (earlier ds j) (shapes_of ds) (earlier-likewise ds j) s.definition.fields vs k t new s.shape.2 s.ty g
+        fields-set (earlier ds j) (shapes_of ds) (earlier-likewise ds j) s.definition.fields vs k t new s.shape.2 s.ty g,
       );
       cells =
           ap cells_of whole
