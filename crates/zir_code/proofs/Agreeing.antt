@@ -1,6 +1,6 @@
 -- Code that ends as the meaning says, and what follows it.
-use Rattle.std.specs.Prelude.{ℕ, ℤ, ◌+◌, ◌≤◌, ◌<◌, ◌^◌, List, [], ◌∷◌, ◌++◌, ◌≡◌, refl, length}
-use Rattle.std.proofs.Common.{ap, ◌∙◌, sym, subst, arith}
+use Rattle.std.specs.Prelude.{ℕ, ◌≤◌, List, [], ◌∷◌, ◌++◌, ◌≡◌, refl}
+use Rattle.std.proofs.Common.{ap, ◌∙◌, sym}
 use Rattle.zir_tree.specs.declared.value.Val.{Val}
 use Rattle.zir_tree.specs.declared.types.Ty.{Ty}
 use Rattle.zir_meaning.specs.Trace.{State}
@@ -97,7 +97,7 @@ pub agrees_on : (P : Val → State → Memory → Type 0) (Q : State → Memory 
     (s s1 : State) (r : Eval) (q : Ran) (next : Val → State → Eval) (next' : Memory → Ran) → d ≤ d' → Kept top base d g m m1 s s1 →
     ((s' : State) (m' : Memory) → Kept top base d g m m' s s' → Q s' m') → Agrees top base d' g t spot m1 s1 r q →
     ((v : Val) (s' : State) (m' : Memory) → StandsAt g.structs t v m' (place_of base spot) → Kept top base d' g m1 m' s1 s' →
-        Ends P Q (next v s') (next' m')) → Ends P Q (then_eval r next) (then_run q next')
+    Ends P Q (next v s') (next' m')) → Ends P Q (then_eval r next) (then_run q next')
 agrees_on P Q top base d d' g t spot m m1 s s1 r q next next' le k stop a f =
     ends_then (λ v s' m'. StandsAt g.structs t v m' (place_of base spot) × Kept top base d' g m1 m' s1 s') (λ s' m'. Kept top base d' g m1 m' s1 s') P Q
     r q next next' (λ s' m' l. stop s' m' (kept_on top base d d' g m m1 m' s s1 s' le k l)) a (λ v s' m' p. f v s' m' p.0 p.1)

@@ -1,17 +1,17 @@
 -- Calls of functions, whose arguments stand in their cells.
-use Rattle.std.specs.Prelude.{ℕ, zero, suc, ℤ, pos, ◌+◌, ◌<◌, ◌≤◌, ◌^◌, max, List, [], ◌∷◌, ◌++◌, Bool, true, false, Some, nat_lt, ◌≡◌, refl, length}
-use Rattle.std.proofs.Common.{ap, ◌∙◌, sym, subst, arith}
+use Rattle.std.specs.Prelude.{ℕ, zero, suc, ℤ, ◌+◌, ◌<◌, ◌≤◌, ◌^◌, max, List, [], ◌∷◌, Bool, true, false, Some, nat_lt, ◌≡◌, refl, length}
+use Rattle.std.proofs.Common.{◌∙◌, sym, subst, arith}
 use Rattle.std.proofs.lemmas.Bool.Decides.{nat_tests}
 use Rattle.zir_tree.specs.declared.value.Val.{Val}
 use Rattle.zir_tree.specs.declared.value.Slot.{Slot}
 use Rattle.zir_tree.specs.declared.types.StructDef.{StructDef}
 use Rattle.zir_cells.specs.Layout.{layout_of}
 use Rattle.zir_meaning.specs.Trace.{State}
-use Rattle.zir_meaning.specs.Evaluation.{Eval, RunsOut, Library, tick_eval, tick_eval_of}
+use Rattle.zir_meaning.specs.Evaluation.{Eval, Library, tick_eval, tick_eval_of}
 use Rattle.zir_expr.specs.declared.frame.Spot.{Spot}
 use Rattle.zir_expr.specs.declared.frame.Spot.TheVariants.{Top, Local}
 use Rattle.zir_expr.specs.declared.steps.Step.{Call}
-use Rattle.zir_expr.specs.Memory.{Ran, Out, then_run, tick_if, from_base, place_of}
+use Rattle.zir_expr.specs.Memory.{Ran, then_run, tick_if, from_base, place_of}
 use Rattle.zir_expr.specs.Memory.Frames.{Memory}
 use Rattle.zir_expr.specs.Running.{go, go_all}
 use Rattle.zir_expr.proofs.Going.{go-Call}
@@ -33,17 +33,15 @@ pub tops_hold : (structs : List StructDef) (cells : List ℤ) (base base' : ℕ)
 tops_hold structs cells base base' [] [] a h = tt
 tops_hold structs cells base base' [] (s ∷ slots) a h = absurd h
 tops_hold structs cells base base' (d ∷ ds) [] a h = absurd h
-tops_hold structs cells base base' (d ∷ ds) (s ∷ slots) a h =
-    (
-      record { id = h.0.id; cells = rw (← same_place base base' d.spot a.0) h.0.cells; shape = h.0.shape; size = h.0.size },
-      tops_hold structs cells base base' ds slots a.1 h.1,
-    )
+tops_hold structs cells base base' (d ∷ ds) (s ∷ slots) a h = (
+  record { id = h.0.id; cells = rw (← same_place base base' d.spot a.0) h.0.cells; shape = h.0.shape; size = h.0.size },
+  tops_hold structs cells base base' ds slots a.1 h.1,
+)
 
 pub tops_order : (base base' low high : ℕ) (ds : List Holder) → AllTop ds → InOrder base low high ds → InOrder base' low high ds
 tops_order base base' low high [] a o = o
 tops_order base base' low high (d ∷ ds) a o =
-    let e = same_place base base' d.spot a.0 in
-    (
+    let e = same_place base base' d.spot a.0 in (
       subst (λ p. low ≤ p) e o.0,
       tops_order base base' (place_of base' d.spot + d.cells) high ds a.1 (subst (λ p. InOrder base (p + d.cells) high ds) e o.1),
     )

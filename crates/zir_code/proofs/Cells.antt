@@ -1,6 +1,6 @@
 -- Cells that stand in memory: parts of them, and the same cells elsewhere.
-use Rattle.std.specs.Prelude.{ℕ, zero, suc, ℤ, pos, ◌+◌, ◌<◌, ◌≤◌, List, [], ◌∷◌, ◌++◌, ◌≡◌, refl, length, slice_index_or}
-use Rattle.std.proofs.Common.{ap, ◌∙◌, sym, subst, arith}
+use Rattle.std.specs.Prelude.{ℕ, suc, ℤ, pos, ◌+◌, ◌<◌, ◌≤◌, List, [], ◌∷◌, ◌++◌, ◌≡◌, length, slice_index_or}
+use Rattle.std.proofs.Common.{ap, ◌∙◌, subst, arith}
 use Rattle.std.proofs.lemmas.List.{length-append}
 use Rattle.zir_code.specs.Holding.{At}
 
@@ -31,19 +31,13 @@ pub at_between : (cells : List ℤ) (p o : ℕ) (all before xs after : List ℤ)
 at_between cells p o all before xs after e f a =
     at_front cells (p + o) xs after (subst (λ k. At cells (p + k) (xs ++ after)) f (at_back cells p before (xs ++ after) (subst (At cells p) e a)))
 
--- cells end where memory does, or before
-pub at_end : (cells : List ℤ) (p : ℕ) (xs : List ℤ) → p ≤ length cells → At cells p xs → p + length xs ≤ length cells
-at_end cells p [] h a = omega arith
-at_end cells p (x ∷ xs) h a = omega (arith, at_end cells (p + 1) xs (omega (arith, a.0)) a.2)
-
 -- the same cells at another index of other cells
 pub at_moved : (cells cells' : List ℤ) (p q : ℕ) (xs : List ℤ) → q + length xs ≤ length cells' →
     ((k : ℕ) → k < length xs → cell cells' (q + k) ≡ cell cells (p + k)) → At cells p xs → At cells' q xs
 at_moved cells cells' p q [] l same a = tt
 at_moved cells cells' p q (x ∷ xs) l same a =
     let here : q ≡ q + 0 = omega arith in
-    let there : p + 0 ≡ p = omega arith in
-    (
+    let there : p + 0 ≡ p = omega arith in (
       omega arith,
       ap (cell cells') here ∙ same 0 (omega arith) ∙ ap (cell cells) there ∙ a.1,
       at_moved cells cells' (p + 1) (q + 1) xs (omega arith)

@@ -1,5 +1,5 @@
 -- Operators, prefixes and conversions at complex numbers.
-use Rattle.std.specs.Prelude.{ℕ, ℤ, pos, ◌+◌, ◌+ℤ◌, ◌-ℤ◌, ◌<◌, ◌≤◌, ◌^◌, ◌%◌, List, [], ◌∷◌, Bool, true, false, not, ◌&&◌, ◌≡◌, ◌⊎◌, refl, length}
+use Rattle.std.specs.Prelude.{ℕ, ℤ, ◌+◌, ◌+ℤ◌, ◌-ℤ◌, ◌<◌, ◌≤◌, ◌^◌, [], ◌∷◌, Bool, not, ◌&&◌, ◌≡◌, ◌⊎◌, refl, length}
 use Rattle.std.specs.Ordering.{int_eq}
 use Rattle.std.proofs.Common.{ap, ◌∙◌, sym, subst, arith, inl, inr}
 use Rattle.zir_tree.specs.declared.place.Place.{Place}
@@ -8,19 +8,18 @@ use Rattle.zir_tree.specs.declared.types.Base.{Base}
 use Rattle.zir_tree.specs.declared.types.Base.TheVariants.{Bit as BitTy, Bool as BoolTy, Complex16, Complex32}
 use Rattle.zir_tree.specs.declared.expr.Operator.{Operator}
 use Rattle.zir_tree.specs.declared.expr.Operator.TheVariants.{Or, And, BitOr, BitXor, BitAnd, Equal, NotEqual, Less, LessEqual, Greater, GreaterEqual, ShiftLeft, ShiftRight, Add, Subtract, Multiply, Divide, Remainder}
-use Rattle.zir_meaning.specs.Operators.{computed, added, multiplied, negated, converted, same}
+use Rattle.zir_meaning.specs.Operators.{computed, added, multiplied, same}
 use Rattle.zir_meaning.specs.Trace.{State}
 use Rattle.zir_meaning.specs.Evaluation.{Got, computed_at}
 use Rattle.zir_cells.specs.Cells.{cell_of, cells_of}
 use Rattle.zir_cells.specs.Layout.{layout_of}
 use Rattle.zir_shapes.specs.Shapes.{IsPair}
 use Rattle.zir_shapes.specs.Offsets.{plain_type as plain}
-use Rattle.zir_expr.specs.declared.complex.Parts.{Parts}
 use Rattle.zir_expr.specs.declared.complex.ComplexOperation.{ComplexOperation}
-use Rattle.zir_expr.specs.declared.complex.ComplexOperation.TheVariants.{Add as AddPairs, Subtract as SubtractPairs, Multiply as MultiplyPairs, Negate as NegateBoth, Convert as ConvertPair}
+use Rattle.zir_expr.specs.declared.complex.ComplexOperation.TheVariants.{Add as AddPairs, Subtract as SubtractPairs, Multiply as MultiplyPairs}
 use Rattle.zir_expr.specs.declared.frame.Spot.{Spot}
 use Rattle.zir_expr.specs.declared.frame.Spot.TheVariants.{Top, Local}
-use Rattle.zir_expr.specs.declared.steps.Step.{Step, Complex}
+use Rattle.zir_expr.specs.declared.steps.Step.{Complex}
 use Rattle.zir_expr.specs.declared.whole.Whole.TheVariants.{Sixteen, ThirtyTwo}
 use Rattle.zir_expr.specs.Answers.{is_set}
 use Rattle.zir_expr.specs.Memory.{Done, after, cell_at, put_cell, from_base, place_of}
@@ -28,7 +27,7 @@ use Rattle.zir_expr.specs.Memory.Frames.{Memory}
 use Rattle.zir_expr.specs.Running.{go_all, parts_at}
 use Rattle.zir_expr.specs.Scalars.{pair_of, complex_operated}
 use Rattle.zir_code.specs.Scopes.{Scope, shifted}
-use Rattle.zir_code.specs.Coding.{operating, same_pairs}
+use Rattle.zir_code.specs.Coding.{operating}
 use Rattle.zir_code.specs.Typing.{IsWholeType, IsComplexType, OperatorFits}
 use Rattle.zir_code.specs.Holding.{At, Kept, StandsAt, Agrees}
 use Rattle.zir_code.proofs.Cells.{cell}
@@ -63,8 +62,7 @@ one_cell_left : (top base d n high : ℕ) (g : Scope) (t : Base) (m m1 m2 : Memo
 one_cell_left top base d n high g t m m1 m2 s s1 v apart le room small i k c =
     let z = k.size in
     let y = c.size in
-    let q : from_base base d ≡ base + d = low_place base d (omega arith) in
-    (
+    let q : from_base base d ≡ base + d = low_place base d (omega arith) in (
       record {
         shape = shape_is g.structs t v _ i;
         cells = subst (At m2.cells (from_base base d)) (sym (cells_is t v _ i)) (omega arith, refl, tt);
@@ -99,7 +97,7 @@ abbrev compared : ℕ → ℕ → Spot → Spot → Memory → Memory
 compared base d x y m =
     let m1 : Memory = put_cell (from_base base d) (cell_of (int_eq (cell_at (place_of base x) m) (cell_at (place_of base y) m))) m in
     let m2 : Memory = put_cell (from_base base (d + 1))
-        (cell_of (int_eq (cell_at (place_of base (shifted x 1)) m1) (cell_at (place_of base (shifted y 1)) m1))) m1 in
+    (cell_of (int_eq (cell_at (place_of base (shifted x 1)) m1) (cell_at (place_of base (shifted y 1)) m1))) m1 in
     put_cell (from_base base d) (cell_of (is_set (cell_at (from_base base d) m2) && is_set (cell_at (from_base base (d + 1)) m2))) m2
 
 -- the first free cell says whether two complex numbers are the same
@@ -132,11 +130,11 @@ compares base d x y m a b c e room small p q h l =
     let size2 = two.size in
     let v1 : z1 ≡ cell_of (int_eq a c) = ap (λ k. cell_of (int_eq k (cell m.cells (place_of base y)))) h.1 ∙ ap (λ k. cell_of (int_eq a k)) l.1 in
     let bx : cell m1.cells (place_of base (shifted x 1)) ≡ b = ap (cell m1.cells) x1
-        ∙ one.others (place_of base x + 1) (elim p [ inl r ↦ inl (omega arith) | inr r ↦ inr (omega arith) ]) ∙ h.2.1 in
+    ∙ one.others (place_of base x + 1) (elim p [ inl r ↦ inl (omega arith) | inr r ↦ inr (omega arith) ]) ∙ h.2.1 in
     let ey : cell m1.cells (place_of base (shifted y 1)) ≡ e = ap (cell m1.cells) y1
-        ∙ one.others (place_of base y + 1) (elim q [ inl r ↦ inl (omega arith) | inr r ↦ inr (omega arith) ]) ∙ l.2.1 in
+    ∙ one.others (place_of base y + 1) (elim q [ inl r ↦ inl (omega arith) | inr r ↦ inr (omega arith) ]) ∙ l.2.1 in
     let v2 : z2 ≡ cell_of (int_eq b e) =
-        ap (λ k. cell_of (int_eq k (cell m1.cells (place_of base (shifted y 1))))) bx ∙ ap (λ k. cell_of (int_eq b k)) ey in
+    ap (λ k. cell_of (int_eq k (cell m1.cells (place_of base (shifted y 1))))) bx ∙ ap (λ k. cell_of (int_eq b k)) ey in
     let at1 : cell m2.cells i ≡ cell_of (int_eq a c) = two.others i (inl (omega arith)) ∙ cell_written i z1 m (omega arith) ∙ v1 in
     let at2 : cell m2.cells j ≡ cell_of (int_eq b e) = cell_written j z2 m1 (omega arith) ∙ v2 in
     record {
@@ -175,8 +173,8 @@ same_agrees : (top base d n : ℕ) (g : Scope) (u w t : Base) (p : Place) (x y :
 same_agrees top base d n g u w t p x y m m1 s s1 v v' c e f z =
     let r = compares_values top base d n g u w x y m m1 s s1 v v' c e z in
     let a : Agrees top base d g (plain BoolTy) (Local d) m s (Got (BoolVal (same v v')) s1) (Done (compared base d x y m1)) =
-        one_cell_left top base d n (from_base base d + 2) g BoolTy m m1 (compared base d x y m1) s s1 (BoolVal (same v v')) z.apart z.one_free z.room
-        z.small (same v v', refl, r.is) z.kept r.changed in
+    one_cell_left top base d n (from_base base d + 2) g BoolTy m m1 (compared base d x y m1) s s1 (BoolVal (same v v')) z.apart z.one_free z.room
+    z.small (same v v', refl, r.is) z.kept r.changed in
     subst (λ t. ComplexAgrees Equal top base d g t p x y m m1 s s1 v v' u) (sym f)
     (complex_cases (ComplexAgrees Equal top base d g BoolTy p x y m m1 s s1 v v') a a u c)
 
@@ -196,9 +194,9 @@ other_agrees top base d n g u w t p x y m m1 s s1 v v' c e f z =
     let at_i : i ≡ base + d = low_place base d (omega arith) in
     let is : k ≡ cell_of (not (same v v')) = ap (λ b. cell_of (not b)) (ap is_set r.is ∙ is_set_cell (same v v')) in
     let a : Agrees top base d g (plain BoolTy) (Local d) m s (Got (BoolVal (not (same v v'))) s1) (Done (put_cell i k m2)) =
-        one_cell_left top base d n (i + 2) g BoolTy m m1 (put_cell i k m2) s s1 (BoolVal (not (same v v'))) z.apart z.one_free z.room z.small
-        (not (same v v'), refl, cell_written i k m2 (omega arith) ∙ is) z.kept
-        (changed_both i i (i + 2) (i + 1) i (i + 2) m1 m2 (put_cell i k m2) (omega arith) (omega arith) (omega arith) (omega arith) r.changed last) in
+    one_cell_left top base d n (i + 2) g BoolTy m m1 (put_cell i k m2) s s1 (BoolVal (not (same v v'))) z.apart z.one_free z.room z.small
+    (not (same v v'), refl, cell_written i k m2 (omega arith) ∙ is) z.kept
+    (changed_both i i (i + 2) (i + 1) i (i + 2) m1 m2 (put_cell i k m2) (omega arith) (omega arith) (omega arith) (omega arith) r.changed last) in
     subst (λ t. ComplexAgrees NotEqual top base d g t p x y m m1 s s1 v v' u) (sym f)
     (complex_cases (ComplexAgrees NotEqual top base d g BoolTy p x y m m1 s s1 v v') a a u c)
 

@@ -1,9 +1,9 @@
 -- The code of structs, arrays and complex numbers, whose parts stand one behind the other.
-use Rattle.std.specs.Prelude.{ℕ, ℤ, pos, ◌+◌, ◌<◌, ◌≤◌, ◌^◌, max, List, [], ◌∷◌, ◌++◌, Some, ◌≡◌, refl, length, map, replicate, slice_get}
-use Rattle.std.proofs.Common.{ap, ◌∙◌, sym, subst, arith, inl, inr, append-nil}
-use Rattle.zir_tree.specs.declared.value.Val.{Val, Num, Pair, List as Vals}
+use Rattle.std.specs.Prelude.{ℕ, ℤ, ◌+◌, ◌<◌, ◌≤◌, ◌^◌, List, [], ◌∷◌, ◌++◌, Some, ◌≡◌, refl, length, map, replicate, slice_get}
+use Rattle.std.proofs.Common.{ap, ◌∙◌, sym, subst, arith, append-nil}
+use Rattle.zir_tree.specs.declared.value.Val.{Val, Pair, List as Vals}
 use Rattle.zir_tree.specs.declared.types.Base.{Base}
-use Rattle.zir_tree.specs.declared.types.Base.TheVariants.{Int16, Int32, Struct as StructTy}
+use Rattle.zir_tree.specs.declared.types.Base.TheVariants.{Struct as StructTy}
 use Rattle.zir_tree.specs.declared.types.Ty.{Ty}
 use Rattle.zir_tree.specs.declared.types.StructDef.{StructDef}
 use Rattle.zir_tree.specs.declared.expr.Expr.{Expr}
@@ -41,8 +41,7 @@ gathered : (top base d n : ℕ) (g : Scope) (t : Ty) (ts : List Ty) (vs : List V
 gathered top base d n g t ts vs m m1 s s1 le h shape k a =
     let room : base + n ≤ length m.cells = h.room in
     let small : length m.cells < 2 ^ 63 = h.small in
-    let at_d : from_base base d ≡ base + d = low_place base d (omega arith) in
-    (
+    let at_d : from_base base d ≡ base + d = low_place base d (omega arith) in (
       record {
         shape = shape;
         cells = subst (λ p. At m1.cells p (cells_of (Vals vs))) (sym at_d)
@@ -67,7 +66,7 @@ pub array_gathered : (top base d n : ℕ) (g : Scope) (k : ℕ) (u : Ty) (vs : L
 array_gathered top base d n g k u vs m m1 s s1 le h kept a =
     gathered top base d n g (array_of k u) (replicate k u) vs m m1 s s1 le h
     (subst (λ k. Shaped g.structs (array_of k u) (Vals vs)) (as_many g.structs m1.cells (base + d) k u vs a)
-        (arrays-have g.structs u vs (each_shaped g.structs m1.cells (base + d) k u vs a))) kept a
+    (arrays-have g.structs u vs (each_shaped g.structs m1.cells (base + d) k u vs a))) kept a
 
 half_size : (g : Scope) (u : Base) → IsComplexType u → layout_of g.structs (plain (half_type u)) ≡ 1
 half_size g = complex_cases (λ u. layout_of g.structs (plain (half_type u)) ≡ 1) refl refl
@@ -92,8 +91,7 @@ pair_gathered top base d n g u v w m m1 s s1 le c h k a =
     let at_d : from_base base d ≡ base + d = low_place base d (omega arith) in
     let first = number_cells v (half_number g v u c a.0) in
     let second = number_cells w (half_number g w u c a.2.0) in
-    let all : list_cells (v ∷ w ∷ []) ≡ num_of v ∷ num_of w ∷ [] = ap (λ xs. xs ++ (cells_of w ++ [])) first ∙ ap (λ ys. num_of v ∷ (ys ++ [])) second in
-    (
+    let all : list_cells (v ∷ w ∷ []) ≡ num_of v ∷ num_of w ∷ [] = ap (λ xs. xs ++ (cells_of w ++ [])) first ∙ ap (λ ys. num_of v ∷ (ys ++ [])) second in (
       record {
         shape = pair_shaped g (num_of v) (num_of w) u c;
         cells = subst (λ p. At m1.cells p (num_of v ∷ num_of w ∷ [])) (sym at_d) (subst (At m1.cells (base + d)) all
@@ -107,7 +105,7 @@ pub pair_agrees : (top base d n : ℕ) (l : Library) (g : Scope) (u : Base) (a b
     Has g n (plain (half_type u)) a → Has g n (plain (half_type u)) b → peak_of g a d ≤ n → peak_of g b (d + 1) ≤ n → d ≤ n → Holds top base d n g m s →
     (Holds top base d n g m s → Agrees top base d g (plain (half_type u)) (stands g a d) m s (ev l a s) (go_all (code_of g a d) base m)) →
     ((m1 : Memory) (s1 : State) → Holds top base (d + 1) n g m1 s1 →
-        Agrees top base (d + 1) g (plain (half_type u)) (stands g b (d + 1)) m1 s1 (ev l b s1) (go_all (code_of g b (d + 1)) base m1)) →
+    Agrees top base (d + 1) g (plain (half_type u)) (stands g b (d + 1)) m1 s1 (ev l b s1) (go_all (code_of g b (d + 1)) base m1)) →
     Agrees top base d g (plain u) (Local d) m s (then_eval (ev l a s) (λ v s'. then_eval (ev l b s') (λ w s''. Got (Pair (num_of v) (num_of w)) s'')))
     (go_all (code_of g a d ++ (settling (stands g a d) d 1 ++ (code_of g b (d + 1) ++ settling (stands g b (d + 1)) (d + 1) 1))) base m)
 pair_agrees top base d n l g u a b m s c f e fit fit' le h left right =
@@ -118,16 +116,16 @@ pair_agrees top base d n l g u a b m s c f e fit fit' le h left right =
     let last : List Step = code_of g b (d + 1) ++ (settling (stands g b (d + 1)) (d + 1) 1 ++ []) in
     let r : Eval = then_eval (ev l a s) (λ v s'. then_eval (ev l b s') (λ w s''. Got (Pair (num_of v) (num_of w)) s'')) in
     subst (λ steps. Agrees top base d g (plain u) (Local d) m s r
-        (go_all (code_of g a d ++ (settling (stands g a d) d 1 ++ (code_of g b (d + 1) ++ steps))) base m))
+    (go_all (code_of g a d ++ (settling (stands g a d) d 1 ++ (code_of g b (d + 1) ++ steps))) base m))
     (append-nil (settling (stands g b (d + 1)) (d + 1) 1))
     (subst (λ q. Agrees top base d g (plain u) (Local d) m s r q) (then-done (go_all (code_of g a d ++ (settling (stands g a d) d 1 ++ last)) base m) base)
     (subst (λ k. Agrees top base d g (plain u) (Local d) m s r
-        (then_run (go_all (code_of g a d ++ (settling (stands g a d) d k ++ last)) base m) (go_all [] base))) one
+    (then_run (go_all (code_of g a d ++ (settling (stands g a d) d k ++ last)) base m) (go_all [] base))) one
     (argument_agrees P Q top base d n l g t a d [] [] m m s s last (λ v s'. then_eval (ev l b s') (λ w s''. Got (Pair (num_of v) (num_of w)) s''))
     (go_all [] base) (omega arith) f fit h (holds_kept top base d d n g m s h) tt (λ s' m' k. k) left
     (λ v s1 m1 k1 c1.
     subst (λ k. Agrees top base d g (plain u) (Local d) m s (then_eval (ev l b s1) (λ w s''. Got (Pair (num_of v) (num_of w)) s''))
-        (then_run (go_all (code_of g b (d + 1) ++ (settling (stands g b (d + 1)) (d + 1) k ++ [])) base m1) (go_all [] base))) one
+    (then_run (go_all (code_of g b (d + 1) ++ (settling (stands g b (d + 1)) (d + 1) k ++ [])) base m1) (go_all [] base))) one
     (argument_agrees P Q top base d n l g t b (d + 1) (t ∷ []) (v ∷ []) m m1 s s1 [] (λ w s''. Got (Pair (num_of v) (num_of w)) s'')
     (go_all [] base) (omega arith) e fit' h k1 c1 (λ s' m' k. k) (right m1 s1)
     (λ w s2 m2 k2 c2. pair_gathered top base d n g u v w m m2 s s2 le c h k2 c2))))))

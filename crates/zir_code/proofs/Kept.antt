@@ -1,14 +1,12 @@
 -- What cells hold after a change of some of them, and along code that keeps them.
-use Rattle.std.specs.Prelude.{ℕ, ℤ, pos, ◌+◌, ◌<◌, ◌≤◌, ◌^◌, List, [], ◌∷◌, ◌++◌, Bool, true, false, Option, Some, None, if◌then◌else◌, nat_eq, ◌≡◌, ◌≢◌, ◌⊎◌, refl, length, slice_set}
-use Rattle.std.proofs.Common.{ap, ◌∙◌, sym, subst, arith, inl, inr, get_or-set_other, get_or-set_same, length-set}
+use Rattle.std.specs.Prelude.{ℕ, ℤ, pos, ◌+◌, ◌<◌, ◌≤◌, ◌^◌, List, [], ◌∷◌, Bool, true, false, Option, Some, None, if◌then◌else◌, nat_eq, ◌≡◌, ◌≢◌, ◌⊎◌, refl, length}
+use Rattle.std.proofs.Common.{◌∙◌, sym, subst, arith, inl, inr, get_or-set_other, get_or-set_same, length-set}
 use Rattle.zir_tree.specs.declared.value.Val.{Val, Unit as UnitVal}
 use Rattle.zir_tree.specs.declared.value.Slot.{Slot}
-use Rattle.zir_tree.specs.declared.types.Ty.{Ty}
 use Rattle.zir_tree.specs.declared.types.StructDef.{StructDef}
 use Rattle.zir_meaning.specs.Store.{found_or, look_up}
 use Rattle.zir_meaning.specs.Trace.{State}
 use Rattle.zir_cells.specs.Cells.{cells_of}
-use Rattle.zir_cells.specs.Layout.{layout_of}
 use Rattle.zir_shapes.specs.Shapes.{Shaped}
 use Rattle.zir_shapes.proofs.Fitting.{sizes-fit}
 use Rattle.zir_expr.specs.Memory.{put_cell, from_base, place_of}

@@ -19,10 +19,12 @@ pub mod Operands
 pub mod Operating
 pub mod Paths
 pub mod Places
+pub mod Prefixes
 pub mod Program
 pub mod Reading
 pub mod Replacing
 pub mod Room
+pub mod Roots
 pub mod Rows
 pub mod Scopes
 pub mod Simulation

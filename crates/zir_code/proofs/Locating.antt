@@ -1,13 +1,11 @@
 -- How an offset goes on to an element or a slice, and what its cells then are.
-use Rattle.std.specs.Prelude.{ℕ, zero, suc, ℤ, pos, negsuc, ◌+◌, ◌-◌, ◌*◌, ◌+ℤ◌, ◌*ℤ◌, ◌<◌, ◌≤◌, ◌^◌, ◌%◌, List, [], ◌∷◌, ◌++◌, Bool, true, false, ◌&&◌, nat_lt, Option, Some, None, Result, Ok, Err, ◌≡◌, ◌⊎◌, refl, length}
-use Rattle.std.proofs.Common.{ap, ◌∙◌, sym, subst, arith, inl, inr, FitsSigned}
+use Rattle.std.specs.Prelude.{ℕ, zero, suc, ℤ, pos, negsuc, ◌+◌, ◌-◌, ◌*◌, ◌+ℤ◌, ◌<◌, ◌≤◌, ◌^◌, List, true, false, nat_lt, Option, None, Ok, Err, ◌≡◌, ◌⊎◌, refl}
+use Rattle.std.proofs.Common.{ap, ◌∙◌, arith, inl, inr, FitsSigned}
 use Rattle.std.proofs.lemmas.Bool.Decides.{nat_tests}
 use Rattle.std.proofs.lemmas.Int.{int_wrap_fits}
-use Rattle.std.specs.Int.{int_wrap, cast_unsigned}
+use Rattle.std.specs.Int.{int_wrap}
 use mir.Syntax.{w64}
-use Rattle.zir_tree.specs.declared.place.Place.{Place}
-use Rattle.zir_tree.specs.declared.value.Val.{Val, Num}
-use Rattle.zir_tree.specs.declared.types.Base.{Base}
+use Rattle.zir_tree.specs.declared.value.Val.{Val}
 use Rattle.zir_tree.specs.declared.types.Ty.{Ty}
 use Rattle.zir_tree.specs.declared.types.StructDef.{StructDef}
 use Rattle.zir_meaning.specs.Values.{parts}

@@ -1,10 +1,9 @@
 -- What moves of cells do.
-use Rattle.std.specs.Prelude.{ℕ, zero, suc, ℤ, pos, ◌+◌, ◌*◌, ◌<◌, ◌≤◌, ◌^◌, ◌%◌, List, [], ◌∷◌, Bool, true, false, ◌≡◌, ◌≢◌, ◌⊎◌, refl, length, nat_eq}
+use Rattle.std.specs.Prelude.{ℕ, zero, suc, ℤ, ◌+◌, ◌<◌, ◌≤◌, ◌^◌, List, [], Bool, true, false, ◌≡◌, ◌⊎◌, refl, length, nat_eq}
 use Rattle.std.proofs.Common.{ap, ◌∙◌, sym, subst, arith, inl, inr}
 use Rattle.std.proofs.lemmas.Bool.{eqb-true}
 use Rattle.zir_tree.specs.declared.value.Val.{Val}
 use Rattle.zir_tree.specs.declared.types.Ty.{Ty}
-use Rattle.zir_tree.specs.declared.types.StructDef.{StructDef}
 use Rattle.zir_meaning.specs.Functions.{pick}
 use Rattle.zir_meaning.specs.Trace.{State}
 use Rattle.zir_cells.specs.Cells.{cells_of}

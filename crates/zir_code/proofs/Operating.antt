@@ -16,11 +16,11 @@ use Rattle.zir_cells.specs.Cells.{cell_of, cells_of}
 use Rattle.zir_tree.specs.declared.types.StructDef.{StructDef}
 use Rattle.zir_shapes.specs.Shapes.{Shaped}
 use Rattle.zir_shapes.specs.Offsets.{plain_type as plain}
-use Rattle.zir_expr.specs.Answers.{base_of, cell_or_trap, is_set, operator_of}
+use Rattle.zir_expr.specs.Answers.{cell_or_trap, is_set, operator_of}
 use Rattle.zir_expr.specs.declared.scalar.Change.TheVariants.{Not as NotBit, LowestBit}
 use Rattle.zir_expr.specs.declared.scalar.Operation.TheVariants.{Truth as AtTruth}
 use Rattle.zir_expr.specs.Scalars.{changed, operated}
-use Rattle.zir_code.specs.Coding.{whole_of, bitwise_of, operation_of, change_of, conversion_of}
+use Rattle.zir_code.specs.Coding.{bitwise_of, operation_of, change_of, conversion_of}
 use Rattle.zir_code.specs.Typing.{IsWholeType, IsComplexType, IsScalar, OperatorFits, PrefixFits}
 use Rattle.zir_code.specs.Holding.{At}
 use Rattle.zir_code.proofs.Cells.{cell}
@@ -108,9 +108,6 @@ whole_cases P a b c d Int64 w = d
 whole_cases P a b c d Complex16 w = absurd w
 whole_cases P a b c d Complex32 w = absurd w
 whole_cases P a b c d (StructTy k) w = absurd w
-
-base_whole : (u : Base) → IsWholeType u → base_of (whole_of u) ≡ u
-base_whole = whole_cases (λ u. base_of (whole_of u) ≡ u) refl refl refl refl
 
 at_whole : (o : Operator) (x y : ℤ) (u : Base) → IsWholeType u → operated (operation_of o u) x y ≡ cell_or_trap (computed o u (Num x) (Num y))
 at_whole o x y = whole_cases (λ u. operated (operation_of o u) x y ≡ cell_or_trap (computed o u (Num x) (Num y))) refl refl refl refl

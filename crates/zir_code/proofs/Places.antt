@@ -1,16 +1,16 @@
 -- Where values stand that need no code, and where those of parts stand.
-use Rattle.std.specs.Prelude.{ℕ, ℤ, pos, ◌+◌, ◌<◌, ◌≤◌, ◌^◌, List, [], ◌∷◌, Bool, true, false, Option, Some, None, ◌≡◌, ◌⊎◌, refl, length}
+use Rattle.std.specs.Prelude.{ℕ, ◌+◌, ◌<◌, ◌≤◌, ◌^◌, List, false, Option, Some, None, ◌≡◌, refl, length}
 use Rattle.std.proofs.Common.{ap, ◌∙◌, sym, subst, arith, inl, inr}
 use Rattle.zir_tree.specs.declared.value.Val.{Val}
 use Rattle.zir_tree.specs.declared.types.Base.{Base}
 use Rattle.zir_tree.specs.declared.types.Base.TheVariants.{Unit as UnitTy, Bit as BitTy, Bool as BoolTy, Int8, Int16, Int32, Int64, Complex16, Complex32, Struct as StructTy}
 use Rattle.zir_tree.specs.declared.types.Ty.{Ty}
 use Rattle.zir_tree.specs.declared.types.StructDef.{StructDef}
-use Rattle.zir_tree.specs.declared.expr.Expr.{Expr, Unit as UnitLiteral, Bit, Bool as BoolLiteral, Int, Variable, Unary', Binary', Index', Slice', Part', Call', Array', Convert', Complex', Row_of-Expr, end_of-Expr, more_of-Expr}
+use Rattle.zir_tree.specs.declared.expr.Expr.{Expr, Unit as UnitLiteral, Bit, Bool as BoolLiteral, Int, Variable, Unary', Binary', Index', Slice', Part', Call', Array', Convert', Complex', end_of-Expr, more_of-Expr}
 use Rattle.zir_meaning.specs.Operators.{part_of}
 use Rattle.zir_meaning.specs.Store.{look_up}
 use Rattle.zir_meaning.specs.Trace.{State}
-use Rattle.zir_meaning.specs.Evaluation.{Eval, Got, Library, then_eval, ev}
+use Rattle.zir_meaning.specs.Evaluation.{Got, Library, then_eval, ev}
 use Rattle.zir_cells.specs.Cells.{cells_of}
 use Rattle.zir_cells.specs.Layout.{layout_of}
 use Rattle.zir_shapes.specs.Shapes.{Shaped}
@@ -161,7 +161,7 @@ fixed_found top base d n l g t (Part' one (more_of-Expr a end_of-Expr) name k p)
     let e : Expr = Part' one (more_of-Expr a end_of-Expr) name k p in
     let z = shift_cases (fixed g a) (part_offset g.structs (type_in g a) k) spot q in
     let same : part_offset g.structs (type_in g a) k ≡ part_offset g.structs c.0 k =
-        ap (λ ty. part_offset g.structs ty k) (types_found g n c.0 a c.2) in
+    ap (λ ty. part_offset g.structs ty k) (types_found g n c.0 a c.2) in
     subst (λ spot. Fixed top base d l g t e spot m s) (ap (shifted z.0) (sym same) ∙ z.2)
     (part_fixed top base d n l g c.0 t a e k z.0 m s le refl c.1 h (fixed_found top base d n l g c.0 a z.0 m s le c.2 h z.1))
 fixed_found top base d n l g t (Call' name callee _ es) spot m s le c h q = cc

@@ -9,7 +9,7 @@ use Rattle.zir_tree.specs.declared.types.Ty.{Ty}
 use Rattle.zir_tree.specs.declared.types.StructDef.{StructDef}
 use Rattle.zir_meaning.specs.Values.{parts}
 use Rattle.zir_meaning.specs.Operators.{part_of, with_part}
-use Rattle.zir_meaning.specs.Evaluation.{element, range_if}
+use Rattle.zir_meaning.specs.Evaluation.{range_if}
 use Rattle.zir_meaning.specs.Statements.{Step, ToElement, ToRange, ToPart, replaced}
 use Rattle.zir_cells.specs.Cells.{cells_of}
 use Rattle.zir_cells.specs.Layout.{layout_of}

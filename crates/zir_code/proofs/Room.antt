@@ -1,24 +1,20 @@
 -- There is room for the value of an expression where there is room for its code.
-use Rattle.std.specs.Prelude.{ℕ, zero, suc, ◌+◌, ◌*◌, ◌<◌, ◌≤◌, max, List, [], ◌∷◌, Bool, true, false, ◌&&◌, Option, Some, None, ◌≡◌, ◌⊎◌, refl}
-use Rattle.std.proofs.Common.{ap, ◌∙◌, sym, subst, arith, inl, inr}
+use Rattle.std.specs.Prelude.{ℕ, ◌+◌, ◌*◌, ◌≤◌, max, List, Bool, true, ◌&&◌, Option, Some, None, ◌≡◌}
+use Rattle.std.proofs.Common.{ap, ◌∙◌, subst, arith, inr}
 use Rattle.zir_tree.specs.declared.types.Base.{Base}
-use Rattle.zir_tree.specs.declared.types.Base.TheVariants.{Unit as UnitTy, Bit as BitTy, Bool as BoolTy}
 use Rattle.zir_tree.specs.declared.types.Ty.{Ty}
 use Rattle.zir_tree.specs.declared.types.StructDef.{StructDef}
-use Rattle.zir_tree.specs.declared.expr.Callee.{Callee}
-use Rattle.zir_tree.specs.declared.expr.Callee.TheVariants.{Function, Struct}
 use Rattle.zir_tree.specs.declared.expr.Operator.{Operator}
 use Rattle.zir_tree.specs.declared.expr.Operator.TheVariants.{Or, And, BitOr, BitXor, BitAnd, Equal, NotEqual, Less, LessEqual, Greater, GreaterEqual, ShiftLeft, ShiftRight, Add, Subtract, Multiply, Divide, Remainder}
 use Rattle.zir_tree.specs.declared.expr.Expr.{Expr, Unit as UnitLiteral, Bit, Bool as BoolLiteral, Int, Variable, Unary', Binary', Index', Slice', Part', Call', Array', Convert', Complex', Row_of-Expr, end_of-Expr, more_of-Expr}
-use Rattle.zir_meaning.specs.Functions.{pick}
 use Rattle.zir_cells.specs.Layout.{layout_of}
 use Rattle.zir_shapes.specs.Offsets.{plain_type as plain, array_type as array_of}
 use Rattle.zir_expr.specs.declared.frame.Spot.{Spot}
-use Rattle.zir_code.specs.Scopes.{Scope, variable}
-use Rattle.zir_code.specs.Types.{operator_type, type_in, count_of, cells_for, size_in}
+use Rattle.zir_code.specs.Scopes.{Scope}
+use Rattle.zir_code.specs.Types.{operator_type, count_of, size_in}
 use Rattle.zir_code.specs.Coding.{is_calm, is_rooted, fixed, path_width}
 use Rattle.zir_code.specs.Peaks.{behind, peak_if, peak_of, path_peak, arguments_peak}
-use Rattle.zir_code.specs.Typing.{IsWholeType, Has, ElementsFit}
+use Rattle.zir_code.specs.Typing.{Has, ElementsFit}
 use Rattle.zir_code.proofs.TypesFound.{types_found}
 use Rattle.zir_code.proofs.Values.{scalar_size, complex_size}
 

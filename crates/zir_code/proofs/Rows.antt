@@ -1,11 +1,11 @@
 -- Values of several types, one behind the other.
-use Rattle.std.specs.Prelude.{ℕ, zero, suc, ℤ, pos, ◌+◌, ◌<◌, ◌≤◌, List, [], ◌∷◌, ◌++◌, ◌≡◌, refl, length, map, replicate}
-use Rattle.std.proofs.Common.{ap, ◌∙◌, sym, subst, arith, append_assoc}
+use Rattle.std.specs.Prelude.{ℕ, zero, suc, ℤ, ◌+◌, ◌<◌, ◌≤◌, List, [], ◌∷◌, ◌++◌, ◌≡◌, refl, length, map, replicate}
+use Rattle.std.proofs.Common.{ap, sym, subst, arith}
 use Rattle.zir_tree.specs.declared.value.Val.{Val}
 use Rattle.zir_tree.specs.declared.types.Ty.{Ty}
 use Rattle.zir_tree.specs.declared.types.FieldDef.{FieldDef}
 use Rattle.zir_tree.specs.declared.types.StructDef.{StructDef}
-use Rattle.zir_tree.specs.declared.expr.Expr.{Expr, Row_of-Expr, end_of-Expr, more_of-Expr}
+use Rattle.zir_tree.specs.declared.expr.Expr.{Row_of-Expr, end_of-Expr, more_of-Expr}
 use Rattle.zir_meaning.specs.Values.{Each}
 use Rattle.zir_cells.specs.Cells.{cells_of}
 use Rattle.zir_cells.specs.Layout.{layout_of}
@@ -32,8 +32,7 @@ same_cells structs cells cells' p [] [] l same a = tt
 same_cells structs cells cells' p [] (v ∷ vs) l same a = absurd a
 same_cells structs cells cells' p (t ∷ ts) [] l same a = absurd a
 same_cells structs cells cells' p (t ∷ ts) (v ∷ vs) l same a =
-    let n = sizes-fit structs t v a.0 in
-    (
+    let n = sizes-fit structs t v a.0 in (
       a.0,
       at_same cells cells' p (p + layout_of structs t) p (cells_of v) l (λ i b c. same i b (omega arith)) (omega arith) (omega arith) a.1,
       same_cells structs cells cells' (p + layout_of structs t) ts vs l (λ i b c. same i (omega arith) (omega arith)) a.2,

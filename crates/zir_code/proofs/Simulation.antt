@@ -1,8 +1,8 @@
 -- The code of an expression does what the expression means.
-use Rattle.std.specs.Prelude.{ℕ, ℤ, pos, ◌+◌, ◌-◌, ◌<◌, ◌≤◌, ◌^◌, max, List, [], ◌∷◌, ◌++◌, Bool, true, false, ◌&&◌, Option, Some, None, ◌≡◌, refl, length, map, replicate}
-use Rattle.std.proofs.Common.{ap, ◌∙◌, sym, subst, arith, inl, inr, append_assoc, append-nil}
+use Rattle.std.specs.Prelude.{ℕ, ◌+◌, ◌-◌, ◌≤◌, List, [], ◌∷◌, ◌++◌, Bool, true, ◌&&◌, Option, Some, None, ◌≡◌, refl, map, replicate}
+use Rattle.std.proofs.Common.{ap, sym, subst, arith, append_assoc, append-nil}
 use Rattle.zir_tree.specs.declared.value.Val.{Val, Unit as UnitVal, Bit as BitVal, Bool as BoolVal, Num, Pair, List as Vals}
-use Rattle.zir_tree.specs.declared.types.Base.TheVariants.{Unit as UnitTy, Bit as BitTy, Bool as BoolTy, Struct as StructTy}
+use Rattle.zir_tree.specs.declared.types.Base.TheVariants.{Bit as BitTy, Bool as BoolTy, Struct as StructTy}
 use Rattle.zir_tree.specs.declared.types.Ty.{Ty}
 use Rattle.zir_tree.specs.declared.expr.Callee.TheVariants.{Function, Struct}
 use Rattle.zir_tree.specs.declared.expr.Expr.{Expr, Unit as UnitLiteral, Bit, Bool as BoolLiteral, Int, Variable, Unary', Binary', Index', Slice', Part', Call', Array', Convert', Complex', Row_of-Expr, end_of-Expr, more_of-Expr}
@@ -15,18 +15,17 @@ use Rattle.zir_cells.specs.Layout.{layout_of}
 use Rattle.zir_shapes.specs.Offsets.{plain_type as plain, array_type as array_of}
 use Rattle.zir_expr.specs.declared.frame.Spot.{Spot}
 use Rattle.zir_expr.specs.declared.frame.Spot.TheVariants.{Local}
-use Rattle.zir_expr.specs.declared.steps.Step.{Step, Load, Call}
+use Rattle.zir_expr.specs.declared.steps.Step.{Load, Call}
 use Rattle.zir_expr.specs.Memory.{Ran, Done, then_run, put_cell, from_base, place_of}
 use Rattle.zir_expr.specs.Memory.Frames.{Memory}
 use Rattle.zir_expr.specs.Running.{go_all}
 use Rattle.zir_code.specs.declared.scope.Holder.{Holder}
-use Rattle.zir_code.specs.declared.scope.Signature.{Signature}
 use Rattle.zir_code.specs.Scopes.{Scope, variable, shifted}
 use Rattle.zir_code.specs.Types.{result_type, count_of, part_offset, part_type, cells_for, size_in, type_in}
 use Rattle.zir_code.specs.Coding.{is_calm, is_rooted, spot_of, shift_if, fixed, reading, stands, base_width, prefix_code, conversion_code, settling, path_width, path_root, call_code, operator_code, to_element, to_slice, based, base_root, code_of, path_code, arguments_code}
 use Rattle.zir_code.specs.Peaks.{needs_of, peak_if, peak_of, path_peak, arguments_peak}
 use Rattle.zir_code.specs.Typing.{half_type, Has, ArgumentsFit}
-use Rattle.zir_code.specs.Holding.{Holds, Kept, StandsAt, Ends, Agrees}
+use Rattle.zir_code.specs.Holding.{Holds, Kept, StandsAt, Agrees}
 use Rattle.zir_code.specs.Calls.{CellsAre, Calls}
 use Rattle.zir_code.proofs.Kept.{holds_kept}
 use Rattle.zir_code.proofs.Agreeing.{go_all-append, then-done}
@@ -35,9 +34,11 @@ use Rattle.zir_code.proofs.Calm.{still_after}
 use Rattle.zir_code.proofs.Gathering.{struct_gathered, array_gathered, pair_agrees}
 use Rattle.zir_code.proofs.Indexing.{element_agrees, slice_agrees, part_agrees}
 use Rattle.zir_code.proofs.Locating.{element_access, slice_access}
-use Rattle.zir_code.proofs.Operands.{operator_agrees, prefix_agrees, conversion_agrees}
+use Rattle.zir_code.proofs.Operands.{operator_agrees}
+use Rattle.zir_code.proofs.Prefixes.{prefix_agrees, conversion_agrees}
 use Rattle.zir_code.proofs.Operating.{is_num}
-use Rattle.zir_code.proofs.Paths.{PathEnds, access_path, part_path, variable_path}
+use Rattle.zir_code.proofs.Paths.{PathEnds, access_path, part_path}
+use Rattle.zir_code.proofs.Roots.{variable_path}
 use Rattle.zir_code.proofs.Places.{placed}
 use Rattle.zir_code.proofs.Reading.{read_agrees, argument_agrees}
 use Rattle.zir_code.proofs.Room.{value_room, elements_room, offset_room}
@@ -79,7 +80,7 @@ mutual
       (read_agrees top base d n l g t e [] m s (omega arith) c h (λ q. absurd (found_somewhere (variable g x.id) c.0 c.1 q)))
   coded top base n l g fa t (Unary' o u _ (more_of-Expr a end_of-Expr) p) d m s r c h =
       subst (λ t. Agrees top base d g t (Local d) m s (then_eval (ev l a s) (λ v s'. Got (prefixed o u v) s'))
-          (go_all (code_of g a d ++ prefix_code o u (stands g a d) d ∷ []) base m)) (sym c.1)
+      (go_all (code_of g a d ++ prefix_code o u (stands g a d) d ∷ []) base m)) (sym c.1)
       (prefix_agrees o top base d n g u (stands g a d) (code_of g a d) (ev l a s) m s (omega arith) c.0 (record {
         holds = h;
         one_free = omega arith;
@@ -90,9 +91,9 @@ mutual
       let e : ℕ = d + layout_of g.structs (plain u) in
       let peaks : peak_of g b e ≤ n = subst (λ k. peak_of g b (d + k) ≤ n) size (omega arith) in
       subst (λ t. Agrees top base d g t (Local d) m s (two_sided o u p (ev l a s) (ev l b))
-          (go_all (operator_code o u p (stands g a d) (stands g b (d + size_in g a)) d (code_of g a d) (code_of g b (d + size_in g a))) base m)) (sym c.3)
+      (go_all (operator_code o u p (stands g a d) (stands g b (d + size_in g a)) d (code_of g a d) (code_of g b (d + size_in g a))) base m)) (sym c.3)
       (subst (λ k. Agrees top base d g (plain c.1) (Local d) m s (two_sided o u p (ev l a s) (ev l b))
-          (go_all (operator_code o u p (stands g a d) (stands g b (d + k)) d (code_of g a d) (code_of g b (d + k))) base m)) (sym size)
+      (go_all (operator_code o u p (stands g a d) (stands g b (d + k)) d (code_of g a d) (code_of g b (d + k))) base m)) (sym size)
       (operator_agrees o top base d n g u c.0 c.1 p (stands g a d) (stands g b e) (code_of g a d) (code_of g b e) (ev l a s) (ev l b) m s c.2 (record {
         holds = h;
         one_free = omega arith;
@@ -112,7 +113,7 @@ mutual
       }) (λ m1 s1 h1. coded top base n l g fa (plain c.1) i (d + base_width (is_calm i) g a + 1) m1 s1 (omega arith) c.4 h1)
   coded top base n l g fa t (Slice' w1 (more_of-Expr a end_of-Expr) w2 (more_of-Expr i end_of-Expr) k p) d m s r c h =
       subst (λ t. Agrees top base d g t (Local d) m s (ev l (Slice' w1 (more_of-Expr a end_of-Expr) w2 (more_of-Expr i end_of-Expr) k p) s)
-          (go_all (code_of g (Slice' w1 (more_of-Expr a end_of-Expr) w2 (more_of-Expr i end_of-Expr) k p) d) base m)) (sym c.4)
+      (go_all (code_of g (Slice' w1 (more_of-Expr a end_of-Expr) w2 (more_of-Expr i end_of-Expr) k p) d) base m)) (sym c.4)
       (slice_agrees top base d n l g c.1 c.0 k c.2 a i p m s c.3 (omega arith) (record {
         holds = h;
         has = c.5;
@@ -124,9 +125,9 @@ mutual
       let e : Expr = Part' one (more_of-Expr a end_of-Expr) name k p in
       let room : d + layout_of g.structs t ≤ peak_of g e d = value_room g n t e d c in
       subst (λ ty. Agrees top base d g t (stands g e d) m s (ev l e s) (go_all (reading (fixed g e) (layout_of g.structs ty) d
-          (based (is_rooted a) (path_code true g a d) (code_of g a d) (d + base_width true g a)
-          ++ Load (Local d) (shifted (base_root true g a d) (part_offset g.structs (type_in g a) k)) (Local (d + base_width true g a))
-          (cells_for g (part_type g.structs (type_in g a) k)) ∷ [])) base m))
+      (based (is_rooted a) (path_code true g a d) (code_of g a d) (d + base_width true g a)
+      ++ Load (Local d) (shifted (base_root true g a d) (part_offset g.structs (type_in g a) k)) (Local (d + base_width true g a))
+      (cells_for g (part_type g.structs (type_in g a) k)) ∷ [])) base m))
       (sym (types_found g n t e c))
       (read_agrees top base d n l g t e _ m s (omega arith) c h
       (λ q. part_agrees top base d n l g c.0 t a k m s (omega arith) c.1 (record {
@@ -142,9 +143,9 @@ mutual
       let needs : needs_of (g.funs k) ≡ f.needs = ap needs_of q in
       let result : cells_for g (result_type (g.funs k)) ≡ layout_of g.structs f.result = ap (λ o. cells_for g (result_type o)) q in
       subst (λ t. Agrees top base d g t (Local d) m s (ev_all l es [] s (called_by l (Function k)))
-          (go_all (arguments_code g es d ++ call_code (g.funs k) d) base m)) (sym c.2)
+      (go_all (arguments_code g es d ++ call_code (g.funs k) d) base m)) (sym c.2)
       (subst (λ o. Agrees top base d g f.result (Local d) m s (ev_all l es [] s (called_by l (Function k)))
-          (go_all (arguments_code g es d ++ call_code o d) base m)) (sym q)
+      (go_all (arguments_code g es d ++ call_code o d) base m)) (sym q)
       (subst (λ z. Agrees top base d g f.result (Local d) m s (ev_all l es [] s (called_by l (Function k))) z)
       (sym (go_all-append (arguments_code g es d) (Call f.code d ∷ []) base m))
       (arguments_agree es top base d n l g fa f.result (Local d) d [] f.params [] m m s s (called_by l (Function k)) (go_all (Call f.code d ∷ []) base)
@@ -170,7 +171,7 @@ mutual
       (λ vs s1 m1 kept args. array_gathered top base d n g many u vs m m1 s s1 (omega arith) h kept args)))
   coded top base n l g fa t (Convert' u _ (more_of-Expr a end_of-Expr) p) d m s r c h =
       subst (λ t. Agrees top base d g t (Local d) m s (then_eval (ev l a s) (λ v s'. Got (converted u v) s'))
-          (go_all (code_of g a d ++ conversion_code u (stands g a d) d ∷ []) base m)) (sym c.2)
+      (go_all (code_of g a d ++ conversion_code u (stands g a d) d ∷ []) base m)) (sym c.2)
       (conversion_agrees top base d n g u c.0 (stands g a d) (code_of g a d) (ev l a s) m s (omega arith) c.1 (record {
         holds = h;
         one_free = omega arith;
@@ -178,8 +179,8 @@ mutual
       }))
   coded top base n l g fa t (Complex' u _ (more_of-Expr a end_of-Expr) _ (more_of-Expr b end_of-Expr) p) d m s r c h =
       subst (λ t. Agrees top base d g t (Local d) m s
-          (then_eval (ev l a s) (λ v s'. then_eval (ev l b s') (λ w s''. Got (Pair (num_of v) (num_of w)) s'')))
-          (go_all (code_of g a d ++ (settling (stands g a d) d 1 ++ (code_of g b (d + 1) ++ settling (stands g b (d + 1)) (d + 1) 1))) base m)) (sym c.1)
+      (then_eval (ev l a s) (λ v s'. then_eval (ev l b s') (λ w s''. Got (Pair (num_of v) (num_of w)) s'')))
+      (go_all (code_of g a d ++ (settling (stands g a d) d 1 ++ (code_of g b (d + 1) ++ settling (stands g b (d + 1)) (d + 1) 1))) base m)) (sym c.1)
       (pair_agrees top base d n l g u a b m s c.0 c.2 c.3 (omega arith) (omega arith) (omega arith) h
       (λ h'. coded top base n l g fa (plain (half_type u)) a d m s (omega arith) c.2 h')
       (λ m1 s1 h1. coded top base n l g fa (plain (half_type u)) b (d + 1) m1 s1 (omega arith) c.3 h1))
@@ -200,8 +201,8 @@ mutual
       let o : ℕ = d + path_width (still && is_calm i) g a in
       let free = offset_room (still && is_calm i) g a d q in
       subst (λ ty. PathEnds top base d o g t still (path_root (still && is_calm i) g a d) m s
-          (then_eval (ev l a s) (λ v s'. then_eval (ev l i s') (λ w s''. found 2 p (element (parts v) (num_of w)) s'' Got)))
-          (go_all (path_code (still && is_calm i) g a d ++ (code_of g i (o + 1) ++ to_element g ty o (stands g i (o + 1)) p ∷ [])) base m))
+      (then_eval (ev l a s) (λ v s'. then_eval (ev l i s') (λ w s''. found 2 p (element (parts v) (num_of w)) s'' Got)))
+      (go_all (path_code (still && is_calm i) g a d ++ (code_of g i (o + 1) ++ to_element g ty o (stands g i (o + 1)) p ∷ [])) base m))
       (sym (types_found g n (array_of c.0 t) a c.3))
       (access_path top base d o n g (array_of c.0 t) t c.1 still (is_calm i) (path_root (still && is_calm i) g a d) (stands g i (o + 1))
       (path_code (still && is_calm i) g a d) (code_of g i (o + 1)) (record { room = c.0; size = layout_of g.structs t; code = 2; at = p })
@@ -213,11 +214,11 @@ mutual
       let o : ℕ = d + path_width (still && is_calm i) g a in
       let free = offset_room (still && is_calm i) g a d q in
       subst (λ t. PathEnds top base d o g t still (path_root (still && is_calm i) g a d) m s
-          (then_eval (ev l a s) (λ v s'. then_eval (ev l i s') (λ w s''. found 3 p (range (parts v) (num_of w) k) s'' Got)))
-          (go_all (path_code (still && is_calm i) g a d ++ (code_of g i (o + 1) ++ to_slice g (type_in g a) k o (stands g i (o + 1)) p ∷ [])) base m)) (sym c.4)
+      (then_eval (ev l a s) (λ v s'. then_eval (ev l i s') (λ w s''. found 3 p (range (parts v) (num_of w) k) s'' Got)))
+      (go_all (path_code (still && is_calm i) g a d ++ (code_of g i (o + 1) ++ to_slice g (type_in g a) k o (stands g i (o + 1)) p ∷ [])) base m)) (sym c.4)
       (subst (λ ty. PathEnds top base d o g (array_of k c.1) still (path_root (still && is_calm i) g a d) m s
-          (then_eval (ev l a s) (λ v s'. then_eval (ev l i s') (λ w s''. found 3 p (range (parts v) (num_of w) k) s'' Got)))
-          (go_all (path_code (still && is_calm i) g a d ++ (code_of g i (o + 1) ++ to_slice g ty k o (stands g i (o + 1)) p ∷ [])) base m))
+      (then_eval (ev l a s) (λ v s'. then_eval (ev l i s') (λ w s''. found 3 p (range (parts v) (num_of w) k) s'' Got)))
+      (go_all (path_code (still && is_calm i) g a d ++ (code_of g i (o + 1) ++ to_slice g ty k o (stands g i (o + 1)) p ∷ [])) base m))
       (sym (types_found g n (array_of c.0 c.1) a c.5))
       (access_path top base d o n g (array_of c.0 c.1) (array_of k c.1) c.2 still (is_calm i) (path_root (still && is_calm i) g a d) (stands g i (o + 1))
       (path_code (still && is_calm i) g a d) (code_of g i (o + 1))
@@ -228,7 +229,7 @@ mutual
       (λ s1. still_after l i s1) (λ v shape. slice_access g.structs c.0 k c.1 v shape)))
   pathed top base n l g fa t still (Part' _ (more_of-Expr a end_of-Expr) name k p) d m s q r c h =
       subst (λ ty. PathEnds top base d (d + path_width still g a) g t still (shifted (path_root still g a d) (part_offset g.structs ty k)) m s
-          (then_eval (ev l a s) (λ v s'. Got (part_of k v) s')) (go_all (path_code still g a d) base m))
+      (then_eval (ev l a s) (λ v s'. Got (part_of k v) s')) (go_all (path_code still g a d) base m))
       (sym (types_found g n c.0 a c.2))
       (part_path top base d (d + path_width still g a) n k g c.0 t still (path_root still g a d) m s (ev l a s) (go_all (path_code still g a d) base m) h
       (omega arith) c.1 (pathed top base n l g fa c.0 still a d m s q r c.2 h))
@@ -243,7 +244,7 @@ mutual
       (next : List Val → State → Eval) (next' : Memory → Ran) → p ≡ d + width_of_all g.structs before → arguments_peak g es p ≤ n →
       ArgumentsFit g n ts es → Holds top base d n g m s → Kept top base d g m m1 s s1 → CellsAre g.structs m1.cells (base + d) before vs →
       ((vs' : List Val) (s' : State) (m' : Memory) → Kept top base d g m m' s s' → CellsAre g.structs m'.cells (base + d) (before ++ ts) vs' →
-          Agrees top base d g t spot m s (next vs' s') (next' m')) →
+      Agrees top base d g t spot m s (next vs' s') (next' m')) →
       Agrees top base d g t spot m s (ev_all l es vs s1 next) (then_run (go_all (arguments_code g es p) base m1) next')
   arguments_agree end_of-Expr top base d n l g fa t spot p before [] vs m m1 s s1 next next' e r c h k a f =
       f vs s1 m1 k (subst (λ ts. CellsAre g.structs m1.cells (base + d) ts vs) (sym (append-nil before)) a)
@@ -255,7 +256,7 @@ mutual
       let p' : ℕ = p + layout_of g.structs u in
       let peaks : arguments_peak g es p' ≤ n = subst (λ k. arguments_peak g es (p + k) ≤ n) size (omega arith) in
       subst (λ k. Agrees top base d g t spot m s (then_eval (ev l x s1) (λ v s2. ev_all l es (vs ++ v ∷ []) s2 next))
-          (then_run (go_all (code_of g x p ++ (settling (stands g x p) p k ++ arguments_code g es (p + k))) base m1) next')) (sym size)
+      (then_run (go_all (code_of g x p ++ (settling (stands g x p) p k ++ arguments_code g es (p + k))) base m1) next')) (sym size)
       (argument_agrees (λ v s' m'. StandsAt g.structs t v m' (place_of base spot) × Kept top base d g m m' s s') (λ s' m'. Kept top base d g m m' s s')
       top base d n l g u x p before vs m m1 s s1 (arguments_code g es p') (λ v s2. ev_all l es (vs ++ v ∷ []) s2 next) next' e c.0
       (omega arith) h k a (λ s' m' k. k) (λ h1. coded top base n l g fa u x p m1 s1 (omega arith) c.0 h1)

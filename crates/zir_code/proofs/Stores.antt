@@ -1,5 +1,5 @@
 -- Variables in the cells after a change of some, with one more name, and with fewer.
-use Rattle.std.specs.Prelude.{ℕ, suc, ℤ, pos, ◌+◌, ◌<◌, ◌≤◌, ◌^◌, List, [], ◌∷◌, ◌++◌, Bool, true, false, if◌then◌else◌, nat_eq, ◌≡◌, refl, length, take, ◌⊎◌}
+use Rattle.std.specs.Prelude.{ℕ, suc, ℤ, ◌+◌, ◌<◌, ◌≤◌, ◌^◌, List, [], ◌∷◌, ◌++◌, Bool, true, false, if◌then◌else◌, nat_eq, ◌≡◌, refl, length, take, ◌⊎◌}
 use Rattle.std.proofs.Common.{ap, ◌∙◌, sym, subst, arith, inl, inr}
 use Rattle.zir_tree.specs.declared.value.Val.{Val}
 use Rattle.zir_tree.specs.declared.value.Slot.{Slot}
@@ -9,7 +9,6 @@ use Rattle.zir_meaning.specs.Store.{put}
 use Rattle.zir_meaning.specs.Trace.{State}
 use Rattle.zir_meaning.specs.Statements.{bind, assign}
 use Rattle.zir_cells.specs.Cells.{cells_of}
-use Rattle.zir_cells.specs.Layout.{layout_of}
 use Rattle.zir_shapes.specs.Shapes.{Shaped}
 use Rattle.zir_expr.specs.declared.frame.Spot.TheVariants.{Local}
 use Rattle.zir_expr.specs.Memory.{from_base, place_of}
@@ -136,7 +135,7 @@ bound_holds top base d n g m m' s id ty v le f a c h =
       tops = hold_other g.structs base 0 top (base + d) (base + d + cells_for g ty) m m' g.tops s.store.tops c (inl (omega arith)) h.tops_in h.tops;
       locals = hold_more g.structs m'.cells base g.locals s.store.locals _ _
           (hold_other g.structs base base (base + d) (base + d) (base + d + cells_for g ty) m m' g.locals s.store.locals c (inl (omega arith))
-              h.locals_in h.locals)
+          h.locals_in h.locals)
           (record { id = refl; cells = subst (λ p. At m'.cells p (cells_of v)) (sym q) a; shape = f; size = refl });
       tops_in = h.tops_in;
       locals_in = subst (λ k. InOrder base base k (with_local g d id ty).locals)
@@ -164,7 +163,7 @@ assigned_holds top base d n g m m' s id v w sole f a c h = elim sole [
       record {
         tops = rw (absent_put g.structs m.cells base g.tops s.store.tops id w h.tops k.1)
             (hold_other g.structs base 0 top (place_of base v.spot) (place_of base v.spot + v.cells) m m' g.tops s.store.tops c (inl (omega arith))
-                h.tops_in h.tops);
+            h.tops_in h.tops);
         locals = sole_put g.structs base base (base + d) m m' g.locals s.store.locals id v w h.locals h.locals_in k.0 c f a;
         tops_in = h.tops_in;
         locals_in = h.locals_in;
@@ -183,7 +182,7 @@ assigned_holds top base d n g m m' s id v w sole f a c h = elim sole [
         tops = sole_put g.structs base 0 top m m' g.tops s.store.tops id v w h.tops h.tops_in k.1 c f a;
         locals = rw (absent_put g.structs m.cells base g.locals s.store.locals id w h.locals k.0)
             (hold_other g.structs base base (base + d) (place_of base v.spot) (place_of base v.spot + v.cells) m m' g.locals s.store.locals c
-                (inr (omega arith)) h.locals_in h.locals);
+            (inr (omega arith)) h.locals_in h.locals);
         tops_in = h.tops_in;
         locals_in = h.locals_in;
         used = c.used ∙ h.used;

@@ -1,6 +1,6 @@
 -- The type that code finds for an expression is its own.
-use Rattle.std.specs.Prelude.{ℕ, suc, List, [], ◌∷◌, Option, Some, None, ◌≡◌, ◌⊎◌, refl, ◌≤◌}
-use Rattle.std.proofs.Common.{ap, ◌∙◌, sym, subst, arith, inl, inr}
+use Rattle.std.specs.Prelude.{ℕ, List, ◌≡◌, ◌≤◌}
+use Rattle.std.proofs.Common.{ap, ◌∙◌, sym, arith}
 use Rattle.zir_tree.specs.declared.types.Base.{Base}
 use Rattle.zir_tree.specs.declared.types.Base.TheVariants.{Unit as UnitTy, Bit as BitTy, Bool as BoolTy, Int8, Int16, Int32, Int64, Complex16, Complex32, Struct as StructTy}
 use Rattle.zir_tree.specs.declared.types.Ty.{Ty}

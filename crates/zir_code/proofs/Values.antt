@@ -1,8 +1,8 @@
 -- Values of one cell and complex numbers that go to the first free cells.
-use Rattle.std.specs.Prelude.{ℕ, zero, suc, ℤ, pos, ◌+◌, ◌<◌, ◌≤◌, ◌^◌, List, [], ◌∷◌, ◌≡◌, ◌⊎◌, refl, length, Result, Ok, Err}
+use Rattle.std.specs.Prelude.{ℕ, ℤ, ◌+◌, ◌<◌, ◌≤◌, ◌^◌, List, [], ◌≡◌, refl, length, Result, Ok, Err}
 use Rattle.std.proofs.Common.{ap, ◌∙◌, sym, subst, arith, inl, inr}
 use Rattle.zir_tree.specs.declared.place.Place.{Place}
-use Rattle.zir_tree.specs.declared.value.Val.{Val, Unit as UnitVal, Pair}
+use Rattle.zir_tree.specs.declared.value.Val.{Val}
 use Rattle.zir_tree.specs.declared.types.Base.{Base}
 use Rattle.zir_tree.specs.declared.types.Base.TheVariants.{Unit as UnitTy, Bit as BitTy, Bool as BoolTy, Int8, Int16, Int32, Int64, Complex16, Complex32, Struct as StructTy}
 use Rattle.zir_tree.specs.declared.types.StructDef.{StructDef}
@@ -17,11 +17,11 @@ use Rattle.zir_expr.specs.declared.complex.Parts.{Parts}
 use Rattle.zir_expr.specs.declared.frame.Spot.TheVariants.{Local}
 use Rattle.zir_expr.specs.Memory.{Done, then_run, after, put_cell, from_base}
 use Rattle.zir_expr.specs.Memory.Frames.{Memory}
-use Rattle.zir_expr.specs.Running.{go_all, put_or_trap, parts_at, put_parts}
+use Rattle.zir_expr.specs.Running.{go_all, put_or_trap, put_parts}
 use Rattle.zir_expr.specs.Scalars.{pair_of}
 use Rattle.zir_code.specs.Scopes.{Scope}
-use Rattle.zir_code.specs.Typing.{IsWholeType, IsComplexType, IsScalar}
-use Rattle.zir_code.specs.Holding.{At, Kept, StandsAt, Agrees}
+use Rattle.zir_code.specs.Typing.{IsComplexType, IsScalar}
+use Rattle.zir_code.specs.Holding.{At, Kept, Agrees}
 use Rattle.zir_code.proofs.Cells.{cell}
 use Rattle.zir_code.proofs.Kept.{low_place, Changed, changed_cell, changed_both, cell_written, kept_changed}
 use Rattle.zir_code.proofs.Moves.{low_after}
@@ -81,8 +81,7 @@ put_value top base d n g t m m' s s' v x apart le room small i k =
     let z = k.size in
     let q : from_base base d ≡ base + d = low_place base d (omega arith) in
     let c : Changed (from_base base d) (from_base base d + 1) m' (put_cell (from_base base d) x m') = changed_cell (from_base base d) x m' in
-    let size = c.size in
-    (
+    let size = c.size in (
       record {
         shape = shape_is g.structs t v x i;
         cells = subst (At (put_cell (from_base base d) x m').cells (from_base base d)) (sym (cells_is t v x i))
@@ -98,19 +97,10 @@ pub answers : (top base d n : ℕ) (g : Scope) (t : Base) (p : Place) (c : Compu
 answers top base d n g t p (Gives v) (Ok x) m m' s s' a r room small i k = put_value top base d n g t m m' s s' v x a r room small i k
 answers top base d n g t p (Gives v) (Err code) m m' s s' a r room small i k = absurd i
 answers top base d n g t p (Fails code) (Ok x) m m' s s' a r room small i k = absurd i
-answers top base d n g t p (Fails code) (Err code') m m' s s' a r room small i k =
-    (
-      ap (λ c. record { code = c; at = p }) i,
-      record { tops = k.tops; tops_in = k.tops_in; locals = k.locals; same = k.same; size = k.size; used = k.used; limit = k.limit },
-    )
-
--- the complex number that two cells are
-pub pair_at : (m : Memory) (i : ℕ) (v : Val) → length m.cells < 2 ^ 63 → IsPair v → At m.cells i (cells_of v) → pair_of (parts_at i m) ≡ v
-pair_at m i v small (a, b, e) h =
-    let c = subst (λ v. At m.cells i (cells_of v)) e h in
-    let lt = c.0 in
-    let q : after i ≡ i + 1 = low_after i (omega arith) in
-    ap (λ x. Pair x (cell m.cells (after i))) c.1 ∙ ap (Pair a) (ap (cell m.cells) q ∙ c.2.1) ∙ sym e
+answers top base d n g t p (Fails code) (Err code') m m' s s' a r room small i k = (
+  ap (λ c. record { code = c; at = p }) i,
+  record { tops = k.tops; tops_in = k.tops_in; locals = k.locals; same = k.same; size = k.size; used = k.used; limit = k.limit },
+)
 
 -- a complex number goes to the first two free cells
 pub put_pair : (top base d n : ℕ) (g : Scope) (u : Base) (m m' : Memory) (s s' : State) (v : Val) (p : Parts) → top ≤ base → d + 2 ≤ n →
@@ -128,10 +118,9 @@ put_pair top base d n g u m m' s s' v p apart le room small c e k =
     let size1 = one.size in
     let size2 = two.size in
     let both : Changed i (i + 2) m' m2 = changed_both i (after i) (i + 1) (after i + 1) i (i + 2) m' m1 m2 (omega arith) (omega arith) (omega arith)
-        (omega arith) one two in
+    (omega arith) one two in
     let first : cell m2.cells i ≡ p.real = two.others i (inl (omega arith)) ∙ cell_written i p.real m' (omega arith) in
-    let second : cell m2.cells (i + 1) ≡ p.imaginary = ap (cell m2.cells) (sym f) ∙ cell_written (after i) p.imaginary m1 (omega arith) in
-    (
+    let second : cell m2.cells (i + 1) ≡ p.imaginary = ap (cell m2.cells) (sym f) ∙ cell_written (after i) p.imaginary m1 (omega arith) in (
       record {
         shape = pair_complex g.structs v u c (p.real, p.imaginary, e);
         cells = subst (λ v. At m2.cells i (cells_of v)) (sym e) (omega arith, first, (omega arith, second, tt));

@@ -1,5 +1,5 @@
 -- The code of an expression, and where its value then stands.
-use Rattle.std.specs.Prelude.{ℕ, zero, suc, pos, ◌+◌, ◌-◌, List, [], ◌∷◌, ◌++◌, Bool, true, false, ◌&&◌, Option, Some, None, if◌then◌else◌, nat_eq}
+use Rattle.std.specs.Prelude.{ℕ, zero, suc, pos, ◌+◌, ◌-◌, List, [], ◌∷◌, ◌++◌, Bool, true, false, ◌&&◌, Option, Some, None, nat_eq}
 use Rattle.zir_tree.specs.declared.place.Place.{Place}
 use Rattle.zir_tree.specs.declared.types.Base.{Base}
 use Rattle.zir_tree.specs.declared.types.Ty.{Ty}
@@ -23,7 +23,6 @@ use Rattle.zir_expr.specs.declared.scalar.Change.{Change}
 use Rattle.zir_expr.specs.declared.scalar.Change.TheVariants.{Negate, Complement as ComplementBits, Not as NotBit, Wrap, LowestBit}
 use Rattle.zir_expr.specs.declared.scalar.Operation.{Operation}
 use Rattle.zir_expr.specs.declared.scalar.Operation.TheVariants.{Whole as AtWhole, Truth as AtTruth}
-use Rattle.zir_expr.specs.declared.complex.ComplexOperation.{ComplexOperation}
 use Rattle.zir_expr.specs.declared.complex.ComplexOperation.TheVariants.{Add as AddPairs, Subtract as SubtractPairs, Multiply as MultiplyPairs, Negate as NegateBoth, Convert as ConvertPair}
 use Rattle.zir_expr.specs.declared.steps.Step.{Step, Number, Copy, Move, Change as ChangeStep, Operate, Complex, Locate, Load, Branch, Call}
 use Rattle.zir_tree.specs.declared.expr.Callee.{Callee}

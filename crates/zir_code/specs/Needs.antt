@@ -7,7 +7,7 @@ use Rattle.zir_tree.specs.declared.stmt.Return.{Return}
 use Rattle.zir_meaning.specs.Values.{type_of}
 use Rattle.zir_code.specs.Scopes.{Scope, variable}
 use Rattle.zir_code.specs.Types.{result_type, cells_for, size_in}
-use Rattle.zir_code.specs.Peaks.{needs_of, behind, peak_of, peak_of_all, is_coded, all_coded}
+use Rattle.zir_code.specs.Peaks.{needs_of, peak_of, peak_of_all, is_coded, all_coded}
 use Rattle.zir_code.specs.Statements.{with_index, scope_after, free_after, storing_peak, storing_coded}
 use Rattle.zir_code.specs.Bodies.{cells_of_all, inside, scope_after_all, free_after_all}
 

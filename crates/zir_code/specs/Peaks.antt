@@ -1,5 +1,5 @@
 -- How many cells the code of an expression uses, and which code 32 bits can count the cells of.
-use Rattle.std.specs.Prelude.{ℕ, ◌+◌, ◌^◌, max, List, [], ◌∷◌, Bool, true, false, ◌&&◌, Option, Some, None, nat_lt}
+use Rattle.std.specs.Prelude.{ℕ, ◌+◌, ◌^◌, max, List, [], ◌∷◌, Bool, true, ◌&&◌, Option, Some, None, nat_lt}
 use Rattle.zir_tree.specs.declared.types.Ty.{Ty}
 use Rattle.zir_tree.specs.declared.expr.Callee.{Callee}
 use Rattle.zir_tree.specs.declared.expr.Callee.TheVariants.{Function, Struct}

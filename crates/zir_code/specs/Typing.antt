@@ -1,5 +1,5 @@
 -- Which expressions are well typed, and with which type.
-use Rattle.std.specs.Prelude.{ℕ, zero, suc, ◌+◌, ◌<◌, ◌≤◌, ◌^◌, List, [], ◌∷◌, Some, ◌≡◌, ◌⊎◌, map, length, slice_get}
+use Rattle.std.specs.Prelude.{ℕ, ◌+◌, ◌≤◌, List, [], ◌∷◌, Some, ◌≡◌, ◌⊎◌, map, length, slice_get}
 use Rattle.zir_tree.specs.declared.types.Base.{Base}
 use Rattle.zir_tree.specs.declared.types.Base.TheVariants.{Unit as UnitTy, Bit as BitTy, Bool as BoolTy, Int8, Int16, Int32, Int64, Complex16, Complex32, Struct as StructTy}
 use Rattle.zir_tree.specs.declared.expr.Operator.{Operator}
@@ -13,7 +13,6 @@ use Rattle.zir_shapes.specs.Shapes.{StructsBefore}
 use Rattle.zir_shapes.specs.Offsets.{plain_type as plain, array_type as array_of, field_type}
 use Rattle.zir_expr.specs.declared.frame.Spot.{Spot}
 use Rattle.zir_expr.specs.declared.frame.Spot.TheVariants.{Top, Local}
-use Rattle.zir_tree.specs.declared.expr.Callee.{Callee}
 use Rattle.zir_tree.specs.declared.expr.Callee.TheVariants.{Function, Struct}
 use Rattle.zir_code.specs.declared.scope.Holder.{Holder}
 use Rattle.zir_code.specs.declared.scope.Signature.{Signature}
