@@ -1,11 +1,13 @@
 pub mod Scopes
+pub mod Types
 pub mod Coding
+pub mod Peaks
 pub mod Typing
 pub mod Holding
 pub mod Statements
+pub mod Fine
 pub mod Bodies
 pub mod Calls
+pub mod Needs
 pub mod Program
 pub mod Laws
-pub mod Forms
-pub mod Needs

@@ -3,9 +3,9 @@
 
 pub mod scope;
 
-ghost use Rattle.zir_code.specs.Laws.{ExpressionsAgree, StatementsAgree, FunctionsAgree, TypedHaveCode};
+ghost use Rattle.zir_code.specs.Laws.{ExpressionsAgree, StatementsAgree, FunctionsAgree, TypesAreFound};
 
-/// The code of an expression does what the expression means: the steps end with its value in the cell where it stands, by the same
+/// The code of an expression does what the expression means: the steps end with its value in the cells where it stands, by the same
 /// trap, or with the budget spent, and leave all cells before the free ones as they were.
 pub fn expressions_agree()
     ensures { ExpressionsAgree }
@@ -22,7 +22,7 @@ pub fn functions_agree()
     ensures { FunctionsAgree }
 {}
 
-/// An expression that has a type has code.
-pub fn typed_have_code()
-    ensures { TypedHaveCode }
+/// The type that code finds for an expression is its own.
+pub fn types_are_found()
+    ensures { TypesAreFound }
 {}
