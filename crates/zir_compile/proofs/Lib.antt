@@ -1,12 +1,3 @@
-pub mod Equations
 pub mod Finding
-pub mod Numbers
-pub mod Rows
-pub mod Same
-pub mod Stating
-pub mod Walking
-pub mod Scoping
-pub mod Needing
-pub mod Bodies
-pub mod Signed
-pub mod Typed
+pub mod Literals
+pub mod Sizes

@@ -1,5 +1,5 @@
+pub mod Makes
+pub mod Extents
 pub mod Names
-pub mod Lists
-pub mod Growing
-pub mod Made
-pub mod Signing
+pub mod Deciding
+pub mod Sides
