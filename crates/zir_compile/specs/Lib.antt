@@ -3,3 +3,4 @@ pub mod Extents
 pub mod Names
 pub mod Deciding
 pub mod Sides
+pub mod Coded

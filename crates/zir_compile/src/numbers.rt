@@ -1,6 +1,6 @@
 // Numbers of cells, and why there is no code.
 
-ghost use Rattle.std.specs.Prelude.{◌≡◌, ◌+◌, ◌<◌, ◌^◌};
+ghost use Rattle.std.specs.Prelude.{◌≡◌, ◌+◌, ◌<◌, ◌^◌, alloc_error};
 ghost use Rattle.zir_code.specs.Peaks.{behind as cells_behind};
 ghost use Rattle.zir_code.specs.Scopes as scopes;
 ghost use Rattle.zir_compile.specs.Makes.{Makes};
@@ -23,6 +23,14 @@ impl From<AllocError> for Unmade {
 
     fn from(error: AllocError) -> Unmade {
         Unmade::Memory(error)
+    }
+}
+
+impl<T: Drop> From<AllocFailed<T>> for Unmade {
+    ghost from_gives = { λ _ made. made ≡ Memory alloc_error };
+
+    fn from(error: AllocFailed<T>) -> Unmade {
+        Unmade::Memory(AllocError::from(error))
     }
 }
 

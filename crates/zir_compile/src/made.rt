@@ -1,0 +1,41 @@
+// What has been made so far, and where it stands.
+
+ghost use Rattle.std.specs.Prelude.{◌<◌};
+
+use crate::extent::Extent;
+use zir_expr::frame::Spot;
+
+/// Where the value of an expression stands after its code, its type, its cells, of which a number above 2^64 - 1 counts as that,
+/// and the first cell behind all that the code uses.
+#[derive(Drop)]
+pub struct Placed {
+    pub at: Spot,
+    pub ty: Extent,
+    pub cells: u64,
+    pub peak: u32,
+}
+
+/// The type of the first of arguments, unit where there is none, and the first cell behind all that their code uses.
+#[derive(Drop)]
+pub struct Arguments {
+    pub first: Extent,
+    pub peak: u32,
+}
+
+/// A value that stands in cells without code, and its type.
+#[derive(Drop)]
+pub struct Standing {
+    pub at: Spot,
+    pub ty: Extent,
+}
+
+/// A place that indexes lead to: the spot that its offset counts from, the cell that holds the offset, the type of what stands
+/// there, and the first cell behind all that the code uses.
+#[derive(Drop)]
+pub struct Path {
+    pub root: Spot,
+    pub offset: u32,
+    pub ty: Extent,
+    pub peak: u32,
+    ghost within: { offset < peak },
+}
