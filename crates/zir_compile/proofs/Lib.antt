@@ -1,4 +1,10 @@
+pub mod Expressed
 pub mod Finding
 pub mod Forms
+pub mod Found
+pub mod Leading
+pub mod Listed
 pub mod Literals
+pub mod Making
+pub mod Parts
 pub mod Sizes

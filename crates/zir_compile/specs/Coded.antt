@@ -109,11 +109,15 @@ IsFixed g e (Some value) =
     (fixed g e ≡ Some value.at) × (type_at value.ty ≡ type_in g e) × (is_rooted e ≡ true) ×
     ((d : ℕ) → (is_path_coded true g e d ≡ true) × (path_root true g e d ≡ value.at))
 
+-- 32 bits do not hold the spot of a value, or memory ran out
+abbrev pub IsBeyond : Scope → Expr → Unmade → Type 0
+IsBeyond g e (Memory error) = Unit {0}
+IsBeyond g e Large = (d : ℕ) → (is_rooted e ≡ true) × (is_path_coded true g e d ≡ false)
+
 -- a value is found without code or has code, or 32 bits do not hold its spot, or memory ran out
 abbrev pub Finds : Scope → Expr → Result (Option Standing) Unmade → Type 0
 Finds g e (Ok found) = IsFixed g e found
-Finds g e (Err (Memory error)) = Unit {0}
-Finds g e (Err Large) = (d : ℕ) → (is_rooted e ≡ true) × (is_path_coded true g e d ≡ false)
+Finds g e (Err why) = IsBeyond g e why
 
 -- a variable stands where its holder says, or there is none
 abbrev pub IsVariable : Option Holder → Option Standing → Type 0

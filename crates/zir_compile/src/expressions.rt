@@ -46,13 +46,13 @@ fn number(alloc: Global, n: i64, t: Base, d: u32, steps: &mut Vec<Step>) -> Resu
     })
 }
 
-/// A whole number goes to the cell d.
-fn whole_number(alloc: Global, n: i128, t: Base, d: u32, steps: &mut Vec<Step>) -> Result<Placed, Unmade>
-    ensures { (g : Scope) (at : Place) → let e = Expr.Int n t at in
-        Makes (coded.Fits g e d) (coded.Coded g e d steps.old.items steps.new.items) result }
+/// A number of a whole type goes to the cell d; one of any other type has no code.
+fn whole_number(alloc: Global, n: i64, t: Base, d: u32, steps: &mut Vec<Step>) -> Result<Placed, Unmade>
+    ensures { Makes ((d + 1 < 2 ^ 32) × (offsets.is_whole t ≡ true)) (coded.Stands (Number (Spot.Local d) n ∷ []) (Spot.Local d)
+        (offsets.plain_type t) 1 (d + 1) steps.old.items steps.new.items) result }
 {
     if is_whole(t) {
-        number(alloc, literal(t, n), t, d, steps)
+        number(alloc, n, t, d, steps)
     } else {
         Err(Unmade::Large)
     }
@@ -381,7 +381,7 @@ impl Names {
             Expr::Unit(_) => unit(alloc, d),
             Expr::Bit(b, _) => number(alloc, i64::from(*b), Base::Bit, d, steps),
             Expr::Bool(b, _) => number(alloc, i64::from(*b), Base::Bool, d, steps),
-            Expr::Int(n, t, _) => whole_number(alloc, *n, *t, d, steps),
+            Expr::Int(n, t, _) => whole_number(alloc, literal(*t, *n), *t, d, steps),
             Expr::Variable(x) => self.read_variable(alloc, x, d, steps),
             Expr::Unary(prefix, t, a, _) => self.unary(alloc, a.get(), *prefix, *t, d, steps),
             Expr::Binary(o, t, a, b, at) => {
