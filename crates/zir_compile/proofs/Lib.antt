@@ -1,3 +1,4 @@
+pub mod Along
 pub mod Expressed
 pub mod Finding
 pub mod Forms

@@ -4,3 +4,5 @@ pub mod Names
 pub mod Deciding
 pub mod Sides
 pub mod Coded
+pub mod Made
+pub mod Stated

@@ -10,17 +10,19 @@ ghost use Rattle.zir_code.specs.Types as types;
 ghost use Rattle.zir_compile.specs.Coded as coded;
 ghost use Rattle.zir_compile.specs.Deciding.{left_decides};
 ghost use Rattle.zir_compile.specs.Extents.{type_at};
+ghost use Rattle.zir_compile.specs.Made.{code_if};
 ghost use Rattle.zir_compile.specs.Makes.{Makes};
 ghost use Rattle.zir_compile.specs.Names.{scope_of};
 
 use crate::calm::is_calm;
 use crate::extent::Extent;
-use crate::made::{Arguments, Placed};
+use crate::made::{Arguments, Made, Placed};
 use crate::moves::settling;
 use crate::numbers::{Unmade, behind, sum};
 use crate::operations::{decided, operating};
 use crate::operators::{converted, deciding, is_whole, literal, operator_type, prefixed};
 use crate::scope::Names;
+use sqlite_items::Items;
 use std::alloc::{AllocError, Global};
 use zir_expr::frame::Spot;
 use zir_expr::steps::Step;
@@ -325,7 +327,7 @@ impl Names {
     }
 
     /// Adds the call of the function at this place, whose arguments stand from the cell d on.
-    fn call(&self, alloc: Global, k: u32, d: u32, peak: u32, steps: &mut Vec<Step>) -> Result<Placed, Unmade>
+    pub(crate) fn call(&self, alloc: Global, k: u32, d: u32, peak: u32, steps: &mut Vec<Step>) -> Result<Placed, Unmade>
         ensures { let g = scope_of self.now in let found = g.funs k in let ty = types.result_type found in let n = types.cells_for g ty in
             let end = d + max n (peaks.needs_of found) in
             Makes (end < 2 ^ 32) (coded.Stands (coding.call_code found d) (Spot.Local d) ty n (max peak end)
@@ -369,6 +371,22 @@ impl Names {
             cells,
             peak,
         })
+    }
+
+    /// The code of an expression, whose cells from d on are free. There is none where 32 bits do not hold its numbers.
+    pub fn code(&self, alloc: Global, e: &Expr, d: u32) -> Result<Option<Made>, AllocError>
+        ensures { IfOk result (λ made. made ≡ code_if (scope_of self.now) e.now d) }
+    {
+        let mut steps = Vec::new(alloc);
+        match self.expression(alloc, e, d, &mut steps) {
+            Ok(placed) => Ok(Some(Made {
+                steps: Items::from_vec(steps),
+                at: placed.at,
+                peak: placed.peak,
+            })),
+            Err(Unmade::Large) => Ok(None),
+            Err(Unmade::Memory(error)) => Err(error),
+        }
     }
 
     /// Adds the code of an expression, whose cells from d on are free.

@@ -1,6 +1,7 @@
 //! The code of expressions, statements and functions over typed trees, made once at opening.
 #![tactic(auto)]
 
+mod assignments;
 mod calm;
 pub mod expressions;
 pub mod extent;

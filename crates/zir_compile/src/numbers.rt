@@ -68,3 +68,13 @@ pub fn shifted(spot: Spot, k: u64) -> Result<Spot, Unmade>
         }
     }
 }
+
+/// The number of a spot's cell.
+pub fn number_of(spot: Spot) -> u32
+    ensures { result ≡ scopes.number_of spot }
+{
+    match spot {
+        Spot::Top(o) => o,
+        Spot::Local(o) => o,
+    }
+}

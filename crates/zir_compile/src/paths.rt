@@ -60,7 +60,7 @@ fn part_of_array(range: Option<u64>, element: Extent) -> Result<Extent, AllocErr
 }
 
 /// The offset 0 of a value of this type, whose first cell is a root, goes into a cell.
-fn starting(root: Spot, offset: u32, ty: Extent, steps: &mut Vec<Step>) -> Result<Path, Unmade>
+pub fn starting(root: Spot, offset: u32, ty: Extent, steps: &mut Vec<Step>) -> Result<Path, Unmade>
     ensures { Makes (offset + 1 < 2 ^ 32) (coded.Leads (Number (Spot.Local offset) (pos 0) ∷ []) root offset (type_at ty) (offset + 1)
         steps.old.items steps.new.items) result }
 {
@@ -192,7 +192,7 @@ impl Names {
     }
 
     /// A part of what a path leads to.
-    fn parted(&self, alloc: Global, path: Path, k: u32) -> Result<Path, Unmade>
+    pub(crate) fn parted(&self, alloc: Global, path: Path, k: u32) -> Result<Path, Unmade>
         ensures { let g = scope_of self.now in let ty = type_at path.ty in let offset = types.part_offset g.structs ty k in
             Makes (scopes.number_of path.root + offset < 2 ^ 32)
             (coded.Leads [] (scopes.shifted path.root offset) path.offset (types.part_type g.structs ty k) path.peak [] []) result }
