@@ -9,3 +9,4 @@ pub mod Literals
 pub mod Making
 pub mod Parts
 pub mod Sizes
+pub mod Storing
