@@ -12,4 +12,5 @@ mod operations;
 mod operators;
 pub mod paths;
 pub mod scope;
+pub mod statements;
 pub mod structs;
