@@ -10,5 +10,7 @@ pub mod Literals
 pub mod Making
 pub mod Parts
 pub mod Rows
+pub mod Signed
 pub mod Sizes
 pub mod Storing
+pub mod Typed

@@ -6,3 +6,4 @@ pub mod Sides
 pub mod Coded
 pub mod Made
 pub mod Stated
+pub mod Signing

@@ -4,6 +4,7 @@ ghost use Rattle.std.specs.Prelude.{◌<◌};
 
 use crate::extent::Extent;
 use sqlite_items::Items;
+use zir_code::scope::Holder;
 use zir_expr::frame::Spot;
 use zir_expr::steps::Step;
 
@@ -35,6 +36,13 @@ pub struct Reach {
 pub struct Block {
     pub steps: Items<Step>,
     pub peak: u32,
+}
+
+/// The variables of parameters, and the first free cell behind them.
+#[derive(Drop)]
+pub struct Parameters {
+    pub holders: Vec<Holder>,
+    pub free: u32,
 }
 
 /// The cell of the number of turns of a loop, behind that of its index, and the first cell behind all that the code of both uses.
