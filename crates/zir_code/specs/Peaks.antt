@@ -10,7 +10,7 @@ use Rattle.zir_expr.specs.declared.frame.Spot.{Spot}
 use Rattle.zir_code.specs.declared.scope.Signature.{Signature}
 use Rattle.zir_code.specs.Scopes.{Scope, variable, number_of}
 use Rattle.zir_code.specs.Types.{type_in, callee_type, element_type, first_length, part_type, part_offset, cells_for, size_in}
-use Rattle.zir_code.specs.Coding.{is_calm, is_rooted, fixed, width_if, path_width, path_root, base_width, base_root}
+use Rattle.zir_code.specs.Coding.{is_calm, is_rooted, fixed, stands, width_if, path_width, path_root, base_width, base_root}
 
 -- a number that 32 bits hold
 abbrev pub small : ℕ → Bool
@@ -93,9 +93,13 @@ abbrev pub peak_of_all : Scope → List Expr → ℕ → ℕ
 peak_of_all g [] d = d
 peak_of_all g (e ∷ es) d = max (peak_of g e d) (peak_of_all g es (d + size_in g e))
 
--- 32 bits hold the length of an array and the cells of its elements
+-- 32 bits hold one more than the length of an array, and the cells of its elements
 abbrev pub counts_elements : Scope → Ty → Bool
-counts_elements g ty = small (first_length ty.lengths) && small (cells_for g (element_type ty))
+counts_elements g ty = small (first_length ty.lengths + 1) && small (cells_for g (element_type ty))
+
+-- 32 bits hold the second cells of two values
+abbrev pub counts_pairs : Spot → Spot → Bool
+counts_pairs x y = small (number_of x + 1) && small (number_of y + 1)
 
 -- 32 bits hold a spot, if it is anywhere
 abbrev pub counts_spot : Option Spot → Bool
@@ -111,7 +115,8 @@ abbrev mutual
   is_coded g (Int n t p) d = is_whole t
   is_coded g (Variable x) d = true
   is_coded g (Unary' o t _ (more_of-Expr a end_of-Expr) p) d = is_coded g a d
-  is_coded g (Binary' o t _ (more_of-Expr a end_of-Expr) _ (more_of-Expr b end_of-Expr) p) d = is_coded g a d && is_coded g b (d + size_in g a)
+  is_coded g (Binary' o t _ (more_of-Expr a end_of-Expr) _ (more_of-Expr b end_of-Expr) p) d =
+      is_coded g a d && (is_coded g b (d + size_in g a) && counts_pairs (stands g a d) (stands g b (d + size_in g a)))
   is_coded g (Index' _ (more_of-Expr a end_of-Expr) _ (more_of-Expr i end_of-Expr) p) d =
       let still = is_calm i in
       pick (is_rooted a) (is_path_coded still g a d) (is_coded g a d) && (is_coded g i (d + base_width still g a + 1) && counts_elements g (type_in g a))

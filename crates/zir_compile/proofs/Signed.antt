@@ -1,74 +1,130 @@
 -- Signatures of functions, one after the other.
-use Rattle.std.specs.Prelude.{ℕ, zero, suc, ◌+◌, ◌<◌, ◌≤◌, ◌^◌, max, List, [], ◌∷◌, ◌++◌, true, ◌&&◌, ◌≡◌, Option, Some, None, nat_eq, nat_lt, length, drop, refl}
-use Rattle.std.specs.List.{list_all}
+use Rattle.std.specs.Prelude.{ℕ, zero, suc, ◌+◌, ◌-◌, ◌<◌, ◌≤◌, ◌^◌, max, List, [], ◌∷◌, ◌++◌, true, ◌&&◌, ◌≡◌, Option, Some, None, Result, nat_eq, length, drop, refl}
 use Rattle.std.proofs.Common.{ap, sym, ◌∙◌, subst, append_assoc, append-nil, arith, get_or}
 use Rattle.std.proofs.Math.Dec.{eqb-suc-zero, eqb-zero-suc, eqb-suc-suc}
 use Rattle.std.proofs.lemmas.List.{drop_all, length-append}
+use Rattle.zir_tree.specs.declared.types.StructDef.{StructDef}
+use Rattle.zir_tree.specs.declared.types.Field.{Field}
 use Rattle.zir_tree.specs.declared.stmt.Stmt.{Stmt}
 use Rattle.zir_tree.specs.declared.stmt.Return.{Return}
 use Rattle.zir_tree.specs.declared.program.Function.{Function}
 use Rattle.zir_meaning.specs.Functions.{pick}
+use Rattle.zir_meaning.specs.Values.{type_of}
+use Rattle.zir_cells.specs.Layout.{capped, layout_of}
+use Rattle.zir_expr.specs.declared.frame.Spot.TheVariants.{Local}
 use Rattle.zir_expr.specs.declared.steps.Step.{Step}
-use Rattle.zir_cells.specs.Layout.{capped}
 use Rattle.zir_code.specs.declared.scope.Holder.{Holder}
 use Rattle.zir_code.specs.declared.scope.Signature.{Signature}
 use Rattle.zir_code.specs.Scopes.{Scope}
-use Rattle.zir_code.specs.Needs.{all_needs, result_needs}
-use Rattle.zir_code.specs.Bodies.{free_after_all, parameters, inside}
+use Rattle.zir_code.specs.Types.{cells_for}
+use Rattle.zir_code.specs.Needs.{all_peak, all_stmts_coded, result_peak, result_coded}
+use Rattle.zir_code.specs.Bodies.{all_code, scope_after_all, free_after_all, parameters, cells_of_all, inside, result_code}
 use Rattle.zir_code.specs.Program.{at_top, one_more_signature, more_signatures}
+use Rattle.zir_compile.specs.declared.made.Block.{Block}
+use Rattle.zir_compile.specs.declared.made.Parameters.{Parameters}
+use Rattle.zir_compile.specs.declared.made.Reach.{Reach}
+use Rattle.zir_compile.specs.Coded.{Grows}
 use Rattle.zir_compile.specs.Names.{signature_at}
-use Rattle.zir_compile.specs.Signing.{has_one_cell, body_coded, Bodied, BodiedIf, cells_of, with_code, signature_if, signature_of, signatures_after, no_signature, signatures_of}
-use Rattle.zir_compile.proofs.Equations.{lt_true, lt_false}
+use Rattle.zir_compile.specs.Signing.{AreParameters, ResultFits, BodyFits, Bodied, cells_of, FunctionFits, with_code, signature_in, signature_of, signatures_after, no_signature, signatures_of}
+use Rattle.zir_compile.specs.Stated.{RowFits, Rowed}
 use Rattle.zir_compile.proofs.Finding.{at_place}
-use Rattle.zir_compile.proofs.Same.{needs_same}
-use Rattle.zir_compile.proofs.Bodies.{result_same}
-use Rattle.zir_compile.proofs.Stating.{both_true, second_false}
+use Rattle.zir_compile.proofs.Making.{behind_code, and_first, and_second, both_true}
+use Rattle.zir_compile.proofs.Rows.{all_least, same_parts, scope_at}
 
--- the scope of a body, from its parts
+-- parameters so far and from here on
+pub record Params (g : Scope) (ps rest : List Field) (free : ℕ) (made : List Holder) : Type 0 where
+  pub holders : parameters g 0 ps ≡ made ++ parameters g free rest
+  pub cells : cells_of_all g ps ≡ free + cells_of_all g rest
+
+pub params_init : (g : Scope) (ps : List Field) → Params g ps ps 0 []
+params_init g ps = record { holders = refl; cells = omega arith }
+
+pub params_next : (g : Scope) (ps : List Field) (n : ℕ) (p : Field) (free : ℕ) (made : List Holder) (size : ℕ) → n < length ps → p ≡ get_or ps n p → Params g ps (drop n ps) free made →
+    size ≡ capped (layout_of g.structs (type_of p.ty)) → cells_of_all g ps < 2 ^ 32 → free + size < 2 ^ 32
+params_next g ps n p free made size lt is i k whole =
+    let all : cells_of_all g ps ≡ free + (cells_for g (type_of p.ty) + cells_of_all g (drop (n + 1) ps)) = i.cells ∙ ap (λ xs. free + cells_of_all g xs) (at_place ps n p lt is) in omega arith
+
+pub params_on : (g : Scope) (ps : List Field) (n : ℕ) (p : Field) (free next size : ℕ) (made pushed : List Holder) (h : Holder) → n < length ps → p ≡ get_or ps n p → Params g ps (drop n ps) free made →
+    size ≡ capped (layout_of g.structs (type_of p.ty)) → free + size < 2 ^ 32 → next ≡ free + size → pushed ≡ made ++ h ∷ [] →
+    h ≡ record { id = p.name.id; spot = Local free; cells = next - free; ty = type_of p.ty } → Params g ps (drop (n + 1) ps) next pushed
+params_on g ps n p free next size made pushed h lt is i k small e f q =
+    let rest = drop (n + 1) ps in
+    let place = at_place ps n p lt is in
+    let whole : size ≡ cells_for g (type_of p.ty) = omega arith in
+    let end : next ≡ free + cells_for g (type_of p.ty) = omega arith in
+    let own : next - free ≡ cells_for g (type_of p.ty) = omega arith in
+    let all : cells_of_all g ps ≡ free + (cells_for g (type_of p.ty) + cells_of_all g rest) = i.cells ∙ ap (λ xs. free + cells_of_all g xs) place in
+    let holder : h ≡ record { id = p.name.id; spot = Local free; cells = cells_for g (type_of p.ty); ty = type_of p.ty } =
+    q ∙ ap (λ m. let r : Holder = record { id = p.name.id; spot = Local free; cells = m; ty = type_of p.ty } in r) own in
+    record {
+      holders =
+          i.holders ∙ ap (λ xs. made ++ parameters g free xs) place
+          ∙ sym (append_assoc made (record { id = p.name.id; spot = Local free; cells = cells_for g (type_of p.ty); ty = type_of p.ty } ∷ []) (parameters g (free + cells_for g (type_of p.ty)) rest))
+          ∙ ap (λ (x : Holder). (made ++ x ∷ []) ++ parameters g (free + cells_for g (type_of p.ty)) rest) (sym holder)
+          ∙ ap (λ (hs : List Holder). hs ++ parameters g (free + cells_for g (type_of p.ty)) rest) (sym f) ∙ ap (λ m. pushed ++ parameters g m rest) (sym end);
+      cells = omega arith;
+    }
+
+pub params_end : (g : Scope) (ps : List Field) (n free : ℕ) (made : List Holder) → length ps ≤ n → free < 2 ^ 32 → Params g ps (drop n ps) free made →
+    (cells_of_all g ps < 2 ^ 32) × (made ≡ parameters g 0 ps) × (free ≡ cells_of_all g ps)
+params_end g ps n free made le small i =
+    let none = drop_all n ps le in
+    let all : cells_of_all g ps ≡ free + 0 = i.cells ∙ ap (λ xs. free + cells_of_all g xs) none in
+    (omega arith, sym (i.holders ∙ ap (λ xs. made ++ parameters g free xs) none ∙ append-nil made), omega arith)
+
+-- what a body takes
+pub body_row : (g : Scope) (d : ℕ) (ss : List Stmt) (r : Option Return) → BodyFits g d ss r → RowFits g ss d
+body_row g d ss r f = let cells = f.cells in record { cells = omega arith; numbers = and_first _ _ f.numbers }
+
+pub body_result : (g behind : Scope) (d free : ℕ) (ss : List Stmt) (r : Option Return) → behind ≡ scope_after_all g d ss → free ≡ free_after_all g d ss → BodyFits g d ss r → ResultFits behind r free
+body_result g behind d free ss r e k f =
+    let cells = f.cells in
+    let whole : ResultFits (scope_after_all g d ss) r (free_after_all g d ss) =
+    record { cells = omega arith; numbers = and_second (all_stmts_coded g d ss) _ f.numbers } in
+    subst (λ n. ResultFits behind r n) (sym k) (subst (λ q. ResultFits q r (free_after_all g d ss)) (sym e) whole)
+
+pub body_made : (g behind : Scope) (d peak most : ℕ) (ss : List Stmt) (r : Option Return) (mid new : List Step) (reach : Reach) → RowFits g ss d → Rowed g ss d [] mid behind reach →
+    ResultFits behind r reach.free → Grows (result_code behind reach.free r) (result_peak behind reach.free r) mid new peak → most ≡ max reach.peak peak →
+    BodyFits g d ss r × Bodied g d ss r (record { steps = new; peak = most })
+body_made g behind d peak most ss r mid new reach fa row fr' gr' m =
+    let g1 : Scope = scope_after_all g d ss in
+    let d1 : ℕ = free_after_all g d ss in
+    let fr : ResultFits g1 r d1 = subst (λ n. ResultFits g1 r n) row.free (subst (λ q. ResultFits q r reach.free) row.scope fr') in
+    let gr : Grows (result_code g1 d1 r) (result_peak g1 d1 r) mid new peak =
+    subst (λ n. Grows (result_code g1 n r) (result_peak g1 n r) mid new peak) row.free (subst (λ q. Grows (result_code q reach.free r) (result_peak q reach.free r) mid new peak) row.scope gr') in
+    let left = fa.cells in
+    let right = fr.cells in
+    let up = row.peak in
+    let end = gr.end in (
+      record { cells = omega arith; numbers = both_true _ _ fa.numbers fr.numbers },
+      record { code = behind_code [] mid new (all_code g d ss) _ row.code gr.code; peak = omega arith },
+    )
+
+-- what a function takes
+pub function_params : (g : Scope) (f : Function) → FunctionFits g f → cells_of_all g f.params < 2 ^ 32
+function_params g f h = let cells = h.cells in let least = all_least (inside g f.params) (cells_of_all g f.params) f.body.statements in omega arith
+
 abbrev pub within : Scope → List Holder → Scope
-within g locals = record { tops = g.tops; locals = locals; funs = g.funs }
+within g locals = record { structs = g.structs; tops = g.tops; locals = locals; funs = g.funs }
 
--- the cells of a body
-abbrev pub needs_in : Scope → ℕ → List Stmt → Option Return → ℕ
-needs_in g d ss r = max (all_needs g d ss) (result_needs g (free_after_all d ss) r)
+pub function_body : (g : Scope) (f : Function) (made : List Holder) (free : ℕ) → made ≡ parameters g 0 f.params → free ≡ cells_of_all g f.params → FunctionFits g f →
+    BodyFits (within g made) free f.body.statements f.body.result
+function_body g f made free e k h =
+    subst (λ n. BodyFits (within g made) n f.body.statements f.body.result) (sym k)
+    (subst (λ ls. BodyFits (within g ls) (cells_of_all g f.params) f.body.statements f.body.result) (sym e) (record { cells = h.cells; numbers = h.numbers }))
 
-needs_within : (g h : Scope) → h.funs ≡ g.funs → (d : ℕ) (ss : List Stmt) (r : Option Return) → needs_in h d ss r ≡ needs_in g d ss r
-needs_within g h s d ss r =
-    ap (λ n. max n (result_needs h (free_after_all d ss) r)) (needs_same g h s d ss) ∙ ap (λ n. max (all_needs g d ss) n) (result_same g h s (free_after_all d ss) r)
-
--- the body of a function as the definition sees it
-body_in : (g : Scope) (f : Function) (made : List Holder) (d : ℕ) (o : Option (List Step)) → made ≡ parameters 0 f.params → d ≡ length f.params → cells_of g f < 2 ^ 32 →
-    Bodied (within g made) d f.body.statements f.body.result o → BodiedIf (inside g f.params) (length f.params) f.body.statements f.body.result o
-body_in g f made d o e n lt b =
-    let b1 : Bodied (inside g f.params) d f.body.statements f.body.result o = subst (λ ls. Bodied (within g ls) d f.body.statements f.body.result o) e b in
-    let b2 : Bodied (inside g f.params) (length f.params) f.body.statements f.body.result o = subst (λ k. Bodied (inside g f.params) k f.body.statements f.body.result o) n b1 in
-    b2 (omega (arith, needs_within g (inside g f.params) refl (length f.params) f.body.statements f.body.result))
-
--- the cells of a function, as its body is asked for them
-pub cells_are : (g h : Scope) → h.funs ≡ g.funs → (f : Function) (d needs : ℕ) → d ≡ length f.params → needs ≡ capped (needs_in h d f.body.statements f.body.result) → needs ≡ capped (cells_of g f)
-cells_are g h s f d needs n e =
-    e ∙ ap capped (needs_within g h s d f.body.statements f.body.result ∙ ap (λ k. needs_in g k f.body.statements f.body.result) n)
-
--- a function whose cells are too many
-pub signed_no_room : (g : Scope) (f : Function) → 2 ^ 32 ≤ cells_of g f → None ≡ signature_of g f
-signed_no_room g f le =
-    sym (ap (λ b. signature_if b g f) (second_false (list_all has_one_cell f.params) _ (ap (λ b. b && body_coded (inside g f.params) (length f.params) f.body.statements f.body.result) (lt_false (cells_of g f) (2 ^ 32) le))))
-
--- a function whose body has no code
-pub signed_none : (g : Scope) (f : Function) (made : List Holder) (d : ℕ) → made ≡ parameters 0 f.params → d ≡ length f.params → cells_of g f < 2 ^ 32 →
-    Bodied (within g made) d f.body.statements f.body.result None → None ≡ signature_of g f
-signed_none g f made d e n lt b =
-    let no = body_in g f made d None e n lt b in
-    sym (ap (λ b. signature_if b g f) (second_false (list_all has_one_cell f.params) _ (second_false (nat_lt (cells_of g f) (2 ^ 32)) _ no)))
-
--- a function whose body has code
-pub signed_some : (g : Scope) (f : Function) (made : List Holder) (d needs : ℕ) (steps : List Step) (sig : Signature) → made ≡ parameters 0 f.params → d ≡ length f.params →
-    needs ≡ cells_of g f → cells_of g f < 2 ^ 32 → list_all has_one_cell f.params ≡ true → Bodied (within g made) d f.body.statements f.body.result (Some steps) →
-    sig ≡ with_code f needs steps → Some sig ≡ signature_of g f
-signed_some g f made d needs steps sig e n k lt h b s =
-    let yes = body_in g f made d (Some steps) e n lt b in
-    ap (λ (x : Signature). Some x) (s ∙ ap (λ m. with_code f m steps) k ∙ ap (λ (ss : List Step). with_code f (cells_of g f) ss) yes.1)
-    ∙ sym (ap (λ b. signature_if b g f) (both_true (list_all has_one_cell f.params) _ h (both_true (nat_lt (cells_of g f) (2 ^ 32)) _ (lt_true (cells_of g f) (2 ^ 32) lt) yes.0)))
+pub function_made : (g : Scope) (f : Function) (made : List Holder) (free : ℕ) (block : Block) (sig : Signature) → made ≡ parameters g 0 f.params → free ≡ cells_of_all g f.params →
+    BodyFits (within g made) free f.body.statements f.body.result → Bodied (within g made) free f.body.statements f.body.result block → sig ≡ with_code f block.peak block.steps →
+    FunctionFits g f × (sig ≡ signature_in g f)
+function_made g f made free block sig e k fb' b' s =
+    let d : ℕ = cells_of_all g f.params in
+    let fb : BodyFits (inside g f.params) d f.body.statements f.body.result =
+    subst (λ n. BodyFits (inside g f.params) n f.body.statements f.body.result) k (subst (λ ls. BodyFits (within g ls) free f.body.statements f.body.result) e fb') in
+    let b : Bodied (inside g f.params) d f.body.statements f.body.result block =
+    subst (λ n. Bodied (inside g f.params) n f.body.statements f.body.result block) k (subst (λ ls. Bodied (within g ls) free f.body.statements f.body.result block) e b') in (
+      record { cells = fb.cells; numbers = fb.numbers },
+      s ∙ ap (λ n. with_code f n block.steps) b.peak ∙ ap (λ (steps : List Step). with_code f (cells_of g f) steps) b.code,
+    )
 
 -- one more signature
 pushed_at : (xs : List (Option Signature)) (m : Option Signature) (k : ℕ) → signature_at (xs ++ m ∷ []) k ≡ pick (nat_eq k (length xs)) m (signature_at xs k)
@@ -98,32 +154,30 @@ pub all_at : (xs : List (Option Signature)) → signature_at xs ≡ more_signatu
 all_at xs = more_at xs [] ∙ ap (λ (f : ℕ → Option Signature). more_signatures f 0 xs) nothing_at
 
 -- loop along functions: the beginning, one more function, and the end
-pub signatures_begin : (tops : List Holder) (fs : List Function) → signatures_of tops fs ≡ signatures_after tops (signature_at []) 0 fs
-signatures_begin tops fs = ap (λ (f : ℕ → Option Signature). signatures_after tops f 0 fs) (sym nothing_at)
+pub signatures_begin : (structs : List StructDef) (tops : List Holder) (fs : List Function) → signatures_of structs tops fs ≡ signatures_after structs tops (signature_at []) 0 fs
+signatures_begin structs tops fs = ap (λ (f : ℕ → Option Signature). signatures_after structs tops f 0 fs) (sym nothing_at)
 
-pub signatures_on : (tops : List Holder) (fs : List Function) (n : ℕ) (f : Function) (made next : List (Option Signature)) (m : Option Signature) (all : List (Option Signature)) → n < length fs →
-    f ≡ get_or fs n f → length made ≡ n → m ≡ signature_of (at_top tops (signature_at made)) f → next ≡ made ++ m ∷ [] →
-    all ≡ made ++ signatures_after tops (signature_at made) n (drop n fs) → all ≡ next ++ signatures_after tops (signature_at next) (n + 1) (drop (n + 1) fs)
-signatures_on tops fs n f made next m all lt at l s e i =
+pub signatures_on : (structs : List StructDef) (tops : List Holder) (fs : List Function) (n : ℕ) (f : Function) (made next : List (Option Signature)) (m : Option Signature) (all : List (Option Signature)) → n < length fs →
+    f ≡ get_or fs n f → length made ≡ n → m ≡ signature_of (at_top structs tops (signature_at made)) f → next ≡ made ++ m ∷ [] →
+    all ≡ made ++ signatures_after structs tops (signature_at made) n (drop n fs) → all ≡ next ++ signatures_after structs tops (signature_at next) (n + 1) (drop (n + 1) fs)
+signatures_on structs tops fs n f made next m all lt at l s e i =
     let rest = drop (n + 1) fs in
     let suc_n : suc n ≡ n + 1 = omega arith in
     let q : one_more_signature (signature_at made) n m ≡ signature_at next =
     ap (λ k. one_more_signature (signature_at made) k m) (sym l) ∙ sym (pushed made m) ∙ ap signature_at (sym e) in
-    i ∙ ap (λ (xs : List Function). made ++ signatures_after tops (signature_at made) n xs) (at_place fs n f lt at)
-    ∙ ap (λ (x : Option Signature). made ++ (x ∷ signatures_after tops (one_more_signature (signature_at made) n x) (suc n) rest)) (sym s)
-    ∙ ap (λ (g : ℕ → Option Signature). made ++ (m ∷ signatures_after tops g (suc n) rest)) q
-    ∙ ap (λ k. made ++ (m ∷ signatures_after tops (signature_at next) k rest)) suc_n
-    ∙ sym (append_assoc made (m ∷ []) (signatures_after tops (signature_at next) (n + 1) rest))
-    ∙ ap (λ (xs : List (Option Signature)). xs ++ signatures_after tops (signature_at next) (n + 1) rest) (sym e)
+    i ∙ ap (λ (xs : List Function). made ++ signatures_after structs tops (signature_at made) n xs) (at_place fs n f lt at)
+    ∙ ap (λ (x : Option Signature). made ++ (x ∷ signatures_after structs tops (one_more_signature (signature_at made) n x) (suc n) rest)) (sym s)
+    ∙ ap (λ (g : ℕ → Option Signature). made ++ (m ∷ signatures_after structs tops g (suc n) rest)) q
+    ∙ ap (λ k. made ++ (m ∷ signatures_after structs tops (signature_at next) k rest)) suc_n
+    ∙ sym (append_assoc made (m ∷ []) (signatures_after structs tops (signature_at next) (n + 1) rest))
+    ∙ ap (λ (xs : List (Option Signature)). xs ++ signatures_after structs tops (signature_at next) (n + 1) rest) (sym e)
 
-pub signatures_end : (tops : List Holder) (fs : List Function) (n : ℕ) (made all : List (Option Signature)) → length fs ≤ n →
-    all ≡ made ++ signatures_after tops (signature_at made) n (drop n fs) → all ≡ made
-signatures_end tops fs n made all h i =
-    i ∙ ap (λ (xs : List Function). made ++ signatures_after tops (signature_at made) n xs) (drop_all n fs h) ∙ append-nil made
+pub signatures_end : (structs : List StructDef) (tops : List Holder) (fs : List Function) (n : ℕ) (made all : List (Option Signature)) → length fs ≤ n →
+    all ≡ made ++ signatures_after structs tops (signature_at made) n (drop n fs) → all ≡ made
+signatures_end structs tops fs n made all h i =
+    i ∙ ap (λ (xs : List Function). made ++ signatures_after structs tops (signature_at made) n xs) (drop_all n fs h) ∙ append-nil made
 
-pub scope_end : (tops tops' locals : List Holder) (made all : List (Option Signature)) → tops ≡ tops' → locals ≡ [] → all ≡ made →
-    (let q : Scope = record { tops = tops; locals = locals; funs = signature_at made } in q) ≡ at_top tops' (more_signatures no_signature 0 all)
-scope_end tops tops' locals made all t l a =
-    ap (λ (x : List Holder). let q : Scope = record { tops = x; locals = locals; funs = signature_at made } in q) t
-    ∙ ap (λ (x : List Holder). let q : Scope = record { tops = tops'; locals = x; funs = signature_at made } in q) l
-    ∙ ap (λ (f : ℕ → Option Signature). at_top tops' f) (ap signature_at (sym a) ∙ all_at all)
+pub scope_end : (structs structs' : List StructDef) (tops tops' locals : List Holder) (made all : List (Option Signature)) → structs ≡ structs' → tops ≡ tops' → locals ≡ [] → all ≡ made →
+    (let q : Scope = record { structs = structs; tops = tops; locals = locals; funs = signature_at made } in q) ≡ at_top structs' tops' (more_signatures no_signature 0 all)
+scope_end structs structs' tops tops' locals made all s t l a =
+    same_parts structs structs' tops tops' locals [] made made s t l refl ∙ ap (λ (f : ℕ → Option Signature). at_top structs' tops' f) (ap signature_at (sym a) ∙ all_at all)

@@ -1,5 +1,9 @@
+pub mod Makes
+pub mod Extents
 pub mod Names
-pub mod Lists
-pub mod Growing
+pub mod Deciding
+pub mod Sides
+pub mod Coded
 pub mod Made
+pub mod Stated
 pub mod Signing

@@ -1,13 +1,20 @@
 //! The code of expressions, statements and functions over typed trees, made once at opening.
 #![tactic(auto)]
 
+mod assignments;
+mod calm;
 pub mod expressions;
+pub mod extent;
 pub mod functions;
-pub mod needs;
+pub mod made;
+mod moves;
+pub mod numbers;
+mod operations;
 mod operators;
-pub mod rooms;
+pub mod paths;
 pub mod scope;
 pub mod statements;
+pub mod structs;
 
 ghost use Rattle.zir_compile.specs.Signing.{TypedAreSigned};
 

@@ -4,19 +4,23 @@ ghost use Rattle.std.specs.Prelude.{◌≡◌, true};
 ghost use Rattle.std.specs.Int.{int_wrap};
 ghost use mir.Syntax.{w64};
 ghost use Rattle.zir_meaning.specs.Values.{wrap};
-ghost use Rattle.zir_code.specs.Forms as forms;
+ghost use Rattle.zir_shapes.specs.Offsets as offsets;
 ghost use Rattle.zir_code.specs.Coding as coding;
-ghost use Rattle.zir_compile.specs.Lists.{deciding_value};
+ghost use Rattle.zir_code.specs.Types as types;
+ghost use Rattle.zir_compile.specs.Deciding.{deciding_value};
 
+use zir_expr::complex::ComplexOperation;
+use zir_expr::frame::Spot;
 use zir_expr::scalar::{Change, Operation};
+use zir_expr::steps::Step;
 use zir_expr::truth::Bitwise;
 use zir_expr::whole::Whole;
 use zir_tree::expr::{Operator, Prefix};
-use zir_tree::types::{Base, Ty};
+use zir_tree::types::Base;
 
 /// Whether a type is a whole type.
 pub fn is_whole(t: Base) -> bool
-    ensures { result ≡ forms.is_whole t }
+    ensures { result ≡ offsets.is_whole t }
 {
     match t {
         Base::Int8 => true,
@@ -26,34 +30,6 @@ pub fn is_whole(t: Base) -> bool
         Base::Unit => false,
         Base::Bit => false,
         Base::Bool => false,
-        Base::Complex16 => false,
-        Base::Complex32 => false,
-        Base::Struct(_) => false,
-    }
-}
-
-/// Whether a value of a type is a bit, a truth value or a whole number.
-pub fn is_scalar(ty: &Ty) -> bool
-    ensures { result ≡ forms.is_one_cell ty.now.lengths ty.now.base }
-{
-    match ty.lengths.as_slice() {
-        [] => is_scalar_base(ty.base),
-        [_, ..] => false,
-    }
-}
-
-/// The same of a type without lengths.
-pub fn is_scalar_base(t: Base) -> bool
-    ensures { result ≡ forms.is_scalar t }
-{
-    match t {
-        Base::Bit => true,
-        Base::Bool => true,
-        Base::Int8 => true,
-        Base::Int16 => true,
-        Base::Int32 => true,
-        Base::Int64 => true,
-        Base::Unit => false,
         Base::Complex16 => false,
         Base::Complex32 => false,
         Base::Struct(_) => false,
@@ -114,7 +90,7 @@ pub fn deciding(operator: Operator) -> Option<bool>
 }
 
 /// A prefix of an operand of a type.
-pub fn change_of(prefix: Prefix, t: Base) -> Change
+fn change_of(prefix: Prefix, t: Base) -> Change
     ensures { result ≡ coding.change_of prefix t }
 {
     match prefix {
@@ -128,7 +104,7 @@ pub fn change_of(prefix: Prefix, t: Base) -> Change
 }
 
 /// A conversion to a type.
-pub fn conversion_of(t: Base) -> Change
+fn conversion_of(t: Base) -> Change
     ensures { result ≡ coding.conversion_of t }
 {
     match t {
@@ -137,9 +113,59 @@ pub fn conversion_of(t: Base) -> Change
     }
 }
 
+/// A prefix of a value of a type.
+pub fn prefixed(prefix: Prefix, t: Base, x: Spot, d: u32) -> Step
+    ensures { result ≡ coding.prefix_code prefix t x d }
+{
+    let to = Spot::Local(d);
+    match t {
+        Base::Complex16 => Step::Complex(ComplexOperation::Negate(Whole::Sixteen), to, x, x),
+        Base::Complex32 => Step::Complex(ComplexOperation::Negate(Whole::ThirtyTwo), to, x, x),
+        _ => Step::Change(change_of(prefix, t), to, x),
+    }
+}
+
+/// A conversion of a value to a type.
+pub fn converted(t: Base, x: Spot, d: u32) -> Step
+    ensures { result ≡ coding.conversion_code t x d }
+{
+    let to = Spot::Local(d);
+    match t {
+        Base::Complex16 => Step::Complex(ComplexOperation::Convert(Whole::Sixteen), to, x, x),
+        Base::Complex32 => Step::Complex(ComplexOperation::Convert(Whole::ThirtyTwo), to, x, x),
+        _ => Step::Change(conversion_of(t), to, x),
+    }
+}
+
+/// The type of what an operator answers whose left side has a type.
+pub fn operator_type(operator: Operator, t: Base) -> Base
+    ensures { result ≡ types.operator_type operator t }
+{
+    match operator {
+        Operator::Or => Base::Bool,
+        Operator::And => Base::Bool,
+        Operator::Equal => Base::Bool,
+        Operator::NotEqual => Base::Bool,
+        Operator::Less => Base::Bool,
+        Operator::LessEqual => Base::Bool,
+        Operator::Greater => Base::Bool,
+        Operator::GreaterEqual => Base::Bool,
+        Operator::BitOr => t,
+        Operator::BitXor => t,
+        Operator::BitAnd => t,
+        Operator::ShiftLeft => t,
+        Operator::ShiftRight => t,
+        Operator::Add => t,
+        Operator::Subtract => t,
+        Operator::Multiply => t,
+        Operator::Divide => t,
+        Operator::Remainder => t,
+    }
+}
+
 /// The cell of a whole number of a type.
 pub fn literal(t: Base, n: i128) -> i64
-    ensures { forms.is_whole t ≡ true → result ≡ wrap t n }
+    ensures { offsets.is_whole t ≡ true → result ≡ wrap t n }
 {
     whole_of(t).wrapped(lowest_64(n))
 }

@@ -5,13 +5,15 @@ ghost use Rattle.std.specs.Option.{option_copied};
 ghost use Rattle.zir_code.specs.Scopes as scopes;
 ghost use Rattle.zir_compile.specs.Names.{scope_of, signature_at};
 
+use crate::structs::Structs;
 use sqlite_items::Items;
 use zir_code::scope::{Holder, Signature};
 
-/// The top variables, the names in scope inside the body whose code is made, and the functions before it, each with its
-/// signature where calls of it have code.
+/// The structs, the top variables, the names in scope inside the body whose code is made, and the functions before it, each
+/// with its signature where calls of it have code.
 #[derive(Drop)]
 pub struct Names {
+    pub structs: Structs,
     pub tops: Items<Holder>,
     pub locals: Vec<Holder>,
     pub functions: Vec<Option<Signature>>,

@@ -2,7 +2,7 @@ use Rattle.std.proofs.Common.{◌≡◌, ◌∙◌, ap, arith, to_z, of_z}
 use Rattle.std.specs.Int.{int_wrap}
 use Rattle.std.proofs.lemmas.Int.{ints, to_z-of_z}
 use mir.Syntax.{w64, w128}
-use Rattle.zir_compile.proofs.Numbers.{literal_is}
+use Rattle.zir_compile.proofs.Literals.{literal_is}
 use Rattle.zir_compile.proofs.operators.literal.Goals as goal
 
 pub returns : goal.returns

@@ -3,7 +3,7 @@ use Rattle.std.specs.Int.{int_wrap}
 use Rattle.std.proofs.lemmas.Int.{ints, to_z-of_z}
 use Rattle.std.proofs.lemmas.Nat.{and_mask}
 use mir.Syntax.{w64, w128}
-use Rattle.zir_compile.proofs.Numbers.{low_64, bits_of_128}
+use Rattle.zir_compile.proofs.Literals.{low_64, bits_of_128}
 use Rattle.zir_compile.proofs.operators.lowest_64.Goals as goal
 
 pub returns : goal.returns
