@@ -1,130 +1,224 @@
 -- A call of code does what the function means whose body the code is.
-use Rattle.std.specs.Prelude.{ℕ, suc, ℤ, pos, ◌+◌, ◌<◌, ◌≤◌, ◌^◌, List, [], ◌∷◌, Option, Some, None, ◌≡◌, ◌≢◌, refl, length, slice_index_or, slice_set}
-use Rattle.std.proofs.Common.{ap, ◌∙◌, sym, subst, arith, inr, get_or-set_other, get_or-set_same, length-set}
+use Rattle.std.specs.Prelude.{ℕ, ℤ, ◌+◌, ◌<◌, ◌≤◌, ◌^◌, List, [], ◌∷◌, ◌++◌, Bool, true, false, Option, Some, None, ◌≡◌, refl, length, nat_eq}
+use Rattle.std.proofs.Common.{ap, ◌∙◌, sym, subst, arith, inl, inr}
+use Rattle.std.proofs.lemmas.Bool.{eqb-true}
 use Rattle.zir_tree.specs.declared.value.Val.{Val, Unit as UnitVal}
-use Rattle.zir_tree.specs.declared.types.Base.{Base}
+use Rattle.zir_tree.specs.declared.types.Ty.{Ty}
 use Rattle.zir_tree.specs.declared.types.Field.{Field}
-use Rattle.zir_tree.specs.declared.stmt.Stmt.{Stmt}
+use Rattle.zir_tree.specs.declared.expr.Expr.{Expr}
+use Rattle.zir_tree.specs.declared.stmt.Stmt.{Stmt, Var as VarStmt, Assign, Call, Error, If', IfElse', While', For'}
 use Rattle.zir_tree.specs.declared.stmt.Return.{Return}
+use Rattle.zir_meaning.specs.Values.{type_of}
 use Rattle.zir_meaning.specs.Trace.{State}
 use Rattle.zir_meaning.specs.Evaluation.{Eval, Got, Traps, RunsOut, Library, then_eval, ev}
-use Rattle.zir_meaning.specs.Statements.{left_by, does, does_all, result_of, run_body}
-use Rattle.zir_meaning.specs.Functions.{arguments, entered, returned, called_fun}
+use Rattle.zir_meaning.specs.Functions.{pick, arguments, entered, back, returned, called_fun}
+use Rattle.zir_meaning.specs.Statements.{leave, left_by, does, does_all, result_of, run_body}
+use Rattle.zir_cells.specs.Cells.{cells_of}
+use Rattle.zir_shapes.proofs.Fitting.{sizes-fit}
 use Rattle.zir_expr.specs.declared.frame.Spot.{Spot}
-use Rattle.zir_expr.specs.declared.frame.Spot.TheVariants.{Local}
-use Rattle.zir_expr.specs.declared.steps.Step.{Copy}
-use Rattle.zir_expr.specs.Memory.{Ran, Done, Trapped, Out, then_run, cell_at, from_base, place_of}
+use Rattle.zir_expr.specs.declared.frame.Spot.TheVariants.{Top, Local}
+use Rattle.zir_expr.specs.Memory.{Ran, Done, Trapped, Out, then_run, moved, from_base, place_of}
 use Rattle.zir_expr.specs.Memory.Frames.{Memory}
 use Rattle.zir_expr.specs.Running.{go_all}
-use Rattle.zir_code.specs.declared.scope.Holder.{Holder}
 use Rattle.zir_code.specs.Scopes.{Scope}
-use Rattle.zir_code.specs.Coding.{stands, code_of}
-use Rattle.zir_code.specs.Holding.{At, IsCell, HasForm, Hold, InOrder, Holds, Agrees}
-use Rattle.zir_code.specs.Statements.{stmt_code, scope_after, free_after, Went, AgreesStmt}
-use Rattle.zir_code.specs.Bodies.{all_code, scope_after_all, free_after_all, FineAll, parameters, inside, result_code, ResultFits, body_code, FineBody, ArgumentsAt, Begins, AgreesEnd}
+use Rattle.zir_code.specs.Types.{cells_for, size_in}
+use Rattle.zir_code.specs.Coding.{fixed, read_at, stands, code_of, moving, settling}
+use Rattle.zir_code.specs.Holding.{At, StandsAt, Hold, InOrder, Holds, Kept, Agrees}
+use Rattle.zir_code.specs.Statements.{stmt_code, scope_after, free_after}
+use Rattle.zir_code.specs.Fine.{Fits, Fine, Went, Stopped, AgreesStmt}
+use Rattle.zir_code.specs.Bodies.{all_code, scope_after_all, free_after_all, FineAll, parameters, cells_of_all, inside, result_code, ResultFits, body_code, FineBody, ArgumentsAt, Begins, AgreesEnd}
 use Rattle.zir_code.specs.Calls.{Calls}
-use Rattle.zir_code.proofs.Kept.{low_place, go_all-append}
-use Rattle.zir_code.proofs.Simulation.{room_positive, coded}
-use Rattle.zir_code.proofs.Statements.{Alike, calls_after, alike_went, from_alike, after_statements, idle, Adds, adds_none, adds_both, adds_statement, statement_agrees}
-use Rattle.zir_code.proofs.Stores.{cells_is, form_is, hold_other}
+use Rattle.zir_code.specs.Laws.{ExpressionsAgree, StatementsAgree}
+use Rattle.zir_code.proofs.Kept.{low_place, order_more, Changed}
+use Rattle.zir_code.proofs.Moves.{Placed, Moved, moves, moved_at, moving_goes, Goes}
+use Rattle.zir_code.proofs.Agreeing.{go_all-append, ends_then, ends_more, ends_less}
+use Rattle.zir_code.proofs.Stores.{hold_other}
+use Rattle.zir_code.proofs.TypesFound.{types_are_found}
+use Rattle.zir_code.proofs.Room.{value_room}
+use Rattle.zir_code.proofs.Assigning.{fitting}
+use Rattle.zir_code.proofs.Alike.{SameTops, calls_after, alike_went, after_statements, stopped_from, stopped_in, stopped_kept, idle, Adds, adds_none, adds_both, adds_tops, adds_statement}
+use Rattle.zir_code.proofs.Statements.{statement_agrees}
 
 adds_all : (g : Scope) (d : ℕ) (ss : List Stmt) → Adds g (scope_after_all g d ss)
 adds_all g d [] = adds_none g
-adds_all g d (a ∷ more) = adds_both g (scope_after g d a) (scope_after_all (scope_after g d a) (free_after d a) more) (adds_statement g d a) (adds_all (scope_after g d a) (free_after d a) more)
+adds_all g d (a ∷ more) = adds_both g (scope_after g d a) (scope_after_all (scope_after g d a) (free_after g d a) more) (adds_statement g d a)
+    (adds_all (scope_after g d a) (free_after g d a) more)
+
+all_agree : (top base n : ℕ) (l : Library) → ExpressionsAgree → (ss : List Stmt) (d : ℕ) (g : Scope) → Calls top l g.structs g.tops g.funs →
+    (m : Memory) (s : State) → FineAll g d n ss → Holds top base d n g m s →
+    AgreesStmt top base (free_after_all g d ss) n (scope_after_all g d ss) m (does_all l ss s) (go_all (all_code g d ss) base m)
+all_agree top base n l agree [] d g calls m s f h = idle top base d n g m s h
+all_agree top base n l agree (a ∷ more) d g calls m s f h =
+    let g1 : Scope = scope_after g d a in
+    let d1 : ℕ = free_after g d a in
+    let d2 : ℕ = free_after_all g1 d1 more in
+    let g2 : Scope = scope_after_all g1 d1 more in
+    subst (λ q. AgreesStmt top base d2 n g2 m (then_eval (does l a s) (λ v s'. does_all l more s')) q)
+    (sym (go_all-append (stmt_code g d a) (all_code g1 d1 more) base m))
+    (after_statements top base d1 d2 n g1 g2 m (does l a s) (go_all (stmt_code g d a) base m) (λ v s'. does_all l more s')
+    (go_all (all_code g1 d1 more) base) (adds_tops g1 g2 (adds_all g1 d1 more))
+    (statement_agrees top base n l agree a d g calls m s f.0 h)
+    (λ v s' m' w. all_agree top base n l agree more d1 g1 (calls_after top l g g1 (adds_statement g d a) calls) m' s' f.1 w.holds))
 
 -- the code of a list of statements does what they mean
-pub all_agree : (top base n : ℕ) (l : Library) (ss : List Stmt) (d : ℕ) (g : Scope) (fa : Calls top l g.tops g.funs) (m : Memory) (s : State) → FineAll g d n ss → Holds top base d n g m s → AgreesStmt top base (free_after_all d ss) n (scope_after_all g d ss) m (does_all l ss s) (go_all (all_code g d ss) base m)
-all_agree top base n l [] d g fa m s f h = idle top base d n g m s h
-all_agree top base n l (a ∷ more) d g fa m s f h =
-    let g1 = scope_after g d a in
-    let d1 = free_after d a in
-    let last = adds_all g1 d1 more in
-    subst (λ q. AgreesStmt top base (free_after_all d1 more) n (scope_after_all g1 d1 more) m (then_eval (does l a s) (λ v s'. does_all l more s')) q) (sym (go_all-append (stmt_code g d a) (all_code g1 d1 more) base m))
-    (after_statements top base d1 (free_after_all d1 more) n g1 (scope_after_all g1 d1 more) m (does l a s) (go_all (stmt_code g d a) base m) (λ v s'. does_all l more s') (go_all (all_code g1 d1 more) base) last.tops
-    (statement_agrees top base n l a d g fa m s f.0 h)
-    (λ v s' m' w. from_alike top base (free_after_all d1 more) n (scope_after_all g1 d1 more) m m' _ _ (alike_went top base d1 n g1 m m' s' w) (all_agree top base n l more d1 g1 (calls_after top l g g1 (adds_statement g d a) fa) m' s' f.1 w.holds)))
+pub lists_agree : ExpressionsAgree → StatementsAgree
+lists_agree agree top base d n l g calls ss m s f h = all_agree top base n l agree ss d g calls m s f h
 
--- what follows statements at the end of a body
-end_after : (top base d n : ℕ) (g : Scope) (tops : List Holder) (t : Base) (m : Memory) (r : Eval) (q : Ran) (next : Val → State → Eval) (next' : Memory → Ran) → g.tops ≡ tops → AgreesStmt top base d n g m r q → ((v : Val) (s' : State) (m' : Memory) → Went top base d n g m m' s' → AgreesEnd top base tops t m (next v s') (next' m')) → AgreesEnd top base tops t m (then_eval r next) (then_run q next')
-end_after top base d n g tops t m (Got v s') (Done m') next next' z a k = k v s' m' a
-end_after top base d n g tops t m (Got v s') (Trapped u m') next next' z a k = absurd a
-end_after top base d n g tops t m (Got v s') Out next next' z a k = absurd a
-end_after top base d n g tops t m (Traps u s') (Done m') next next' z a k = absurd a
-end_after top base d n g tops t m (Traps u s') (Trapped w m') next next' z a k =
-    (a.0, record { tops_held = subst (λ ds. Hold m'.cells base ds s'.store.tops) z a.1.tops_held; same = a.1.same; size = a.1.size; used = a.1.used; limit = a.1.limit })
-end_after top base d n g tops t m (Traps u s') Out next next' z a k = absurd a
-end_after top base d n g tops t m RunsOut (Done m') next next' z a k = absurd a
-end_after top base d n g tops t m RunsOut (Trapped w m') next next' z a k = absurd a
-end_after top base d n g tops t m RunsOut Out next next' z a k = tt
+-- a value has been moved to the first cells of the body
+record First (top base : ℕ) (g : Scope) (t : Ty) (v : Val) (m : Memory) (s : State) (m' : Memory) : Type 0 where
+  pub stands : StandsAt g.structs t v m' (from_base base 0)
+  pub stopped : Stopped top base g.structs g.tops m m' s
 
--- the value of a body goes to its first cell
-value_to_first : (top base d n : ℕ) (g : Scope) (tops : List Holder) (t : Base) (x : Spot) (m0 m : Memory) (s : State) (r : Eval) (q : Ran) → g.tops ≡ tops → top ≤ base → 1 ≤ n → base + n ≤ length m.cells → length m.cells < 2 ^ 63 → Alike top base m0 m → Agrees top base d g t x m s r q → AgreesEnd top base tops t m0 r (then_run q (go_all (Copy (Local 0) x ∷ []) base))
-value_to_first top base d n g tops t x m0 m s (Got v s') (Done m') z apart le room small a h =
-    let k = h.1 in
-    let size : length m'.cells ≡ length m.cells = k.size in
-    let y = cell_at (place_of base x) m' in
+-- it is moved, or stands there
+first_by : (b : Bool) (top base d n o : ℕ) (g : Scope) (t : Ty) (v : Val) (m m1 : Memory) (s s1 : State) → nat_eq o 0 ≡ b → Holds top base d n g m s →
+    cells_for g t ≤ n → Kept top base d g m m1 s s1 →
+    StandsAt g.structs t v m1 (from_base base o) → from_base base o + cells_for g t ≤ base + n → base ≤ from_base base o →
+    Goes (First top base g t v m s1) (go_all (pick b [] (moving (Local 0) (Local o) (cells_for g t))) base m1)
+first_by true top base d n o g t v m m1 s s1 e h le k st end low = record {
+  memory = m1;
+  is = refl;
+  so = record {
+    stands = subst (λ i. StandsAt g.structs t v m1 (from_base base i)) (eqb-true o 0 e) st;
+    stopped =
+        stopped_kept top base d g m m1 s s1 k;
+  };
+}
+first_by false top base d n o g t v m m1 s s1 e h le k st end low =
+    let size : ℕ = cells_for g t in
+    let room : base + n ≤ length m.cells = h.room in
+    let small : length m.cells < 2 ^ 63 = h.small in
+    let apart : top ≤ base = h.apart in
+    let long : length m1.cells ≡ length m.cells = k.size in
     let q : from_base base 0 ≡ base + 0 = low_place base 0 (omega arith) in
-    let lt : from_base base 0 < length m'.cells = omega arith in (
-      subst (IsCell t v) (sym (get_or-set_same m'.cells (from_base base 0) y (pos 0) lt)) h.0,
-      record {
-        tops_held = subst (λ ds. Hold (slice_set m'.cells (from_base base 0) y) base ds s'.store.tops) z (hold_other m'.cells base 0 top (from_base base 0) y g.tops s'.store.tops (inr (omega arith)) k.tops_in k.tops);
-        same = λ i b c. (let ne : i ≢ from_base base 0 = omega arith in get_or-set_other m'.cells (from_base base 0) i y (pos 0) ne) ∙ k.same i b (omega arith) ∙ a.same i b c;
-        size = length-set m'.cells (from_base base 0) y ∙ size ∙ a.size;
-        used = k.used;
-        limit = k.limit;
-      },
-    )
-value_to_first top base d n g tops t x m0 m s (Got v s') (Trapped u m') z apart le room small a h = absurd h
-value_to_first top base d n g tops t x m0 m s (Got v s') Out z apart le room small a h = absurd h
-value_to_first top base d n g tops t x m0 m s (Traps u s') (Done m') z apart le room small a h = absurd h
-value_to_first top base d n g tops t x m0 m s (Traps u s') (Trapped w m') z apart le room small a h =
-    let k = h.1 in
-    (h.0, record { tops_held = subst (λ ds. Hold m'.cells base ds s'.store.tops) z k.tops; same = λ i b c. k.same i b (omega arith) ∙ a.same i b c; size = k.size ∙ a.size; used = k.used; limit = k.limit })
-value_to_first top base d n g tops t x m0 m s (Traps u s') Out z apart le room small a h = absurd h
-value_to_first top base d n g tops t x m0 m s RunsOut (Done m') z apart le room small a h = absurd h
-value_to_first top base d n g tops t x m0 m s RunsOut (Trapped w m') z apart le room small a h = absurd h
-value_to_first top base d n g tops t x m0 m s RunsOut Out z apart le room small a h = tt
+    let m2 : Memory = moved size (from_base base 0) (from_base base o) m1 in
+    let r : Moved size (from_base base 0) (from_base base o) m1 m2 =
+    moves size (from_base base 0) (from_base base o) m1 (inl (omega arith)) (omega arith) (omega arith) (omega arith) in
+    let c : Changed (from_base base 0) (from_base base 0 + size) m1 m2 = r.changed in
+    record {
+      memory = m2;
+      is = moving_goes (Local 0) (Local o) size base m1;
+      so = record {
+        stands = record {
+          shape = st.shape;
+          cells = moved_at size (from_base base 0) (from_base base o) m1 m2 (cells_of v)
+              (sizes-fit g.structs t v st.shape) (omega arith) r st.cells;
+        };
+        stopped = record {
+          tops_held = hold_other g.structs base 0 top (from_base base 0) (from_base base 0 + size) m1 m2 g.tops s1.store.tops c
+              (inl (omega arith)) k.tops_in k.tops;
+          same = λ i a b. c.others i (inl (omega arith)) ∙ k.same i a (omega arith);
+          size = c.size ∙ k.size;
+          used = c.used ∙ k.used;
+          limit = c.limit ∙ k.limit;
+        };
+      };
+    }
+
+-- a value is read inside the body that runs
+read_inside : (o : Option Spot) (d : ℕ) → (x : ℕ) × (read_at o d ≡ Local x)
+read_inside None d = (d, refl)
+read_inside (Some (Top o)) d = (d, refl)
+read_inside (Some (Local o)) d = (o, refl)
+
+-- where all cells before those of the body count as the top variables'
+all_before : (top base d n : ℕ) (g : Scope) (m : Memory) (s : State) → Holds top base d n g m s → Holds base base d n g m s
+all_before top base d n g m s h = record {
+  tops = h.tops;
+  locals = h.locals;
+  tops_in = order_more base 0 top base g.tops h.apart h.tops_in;
+  locals_in = h.locals_in;
+  used = h.used;
+  limit = h.limit;
+  apart = omega arith;
+  room = h.room;
+  small = h.small;
+}
+
+-- the value of an expression goes to the first cells
+firsts : (top base d n x : ℕ) (g : Scope) (t : Ty) (v : Val) (spot : Spot) (m m1 : Memory) (s s1 : State) → spot ≡ Local x →
+    Holds top base d n g m s → cells_for g t ≤ n → d + cells_for g t ≤ n → Kept top base d g m m1 s s1 →
+    StandsAt g.structs t v m1 (place_of base spot) → Placed base base d d (cells_for g t) spot →
+    Goes (First top base g t v m s1) (go_all (settling spot 0 (cells_for g t)) base m1)
+firsts top base d n x g t v spot m m1 s s1 e h le fit k st p =
+    let st' : StandsAt g.structs t v m1 (from_base base x) = subst (λ y. StandsAt g.structs t v m1 (place_of base y)) e st in
+    let p' : Placed base base d d (cells_for g t) (Local x) = subst (Placed base base d d (cells_for g t)) e p in
+    let end : from_base base x + cells_for g t ≤ base + n = elim p'.before [ inl a ↦ omega arith | inr a ↦ omega arith ] in
+    subst (λ y. Goes (First top base g t v m s1) (go_all (settling y 0 (cells_for g t)) base m1)) (sym e)
+    (first_by (nat_eq x 0) top base d n x g t v m m1 s s1 refl h le k st' end p'.after)
+
+-- the value of a body, or unit where it has none
+result_agrees : (top base d n : ℕ) (l : Library) (g : Scope) (r : Option Return) (t : Ty) (m : Memory) (s : State) → ExpressionsAgree →
+    Calls top l g.structs g.tops g.funs → ResultFits g d n t r → d ≤ n → Holds top base d n g m s →
+    AgreesEnd top base g.structs g.tops t m (result_of l r s) (go_all (result_code g d r) base m)
+result_agrees top base d n l g None t m s agree calls f le h = (
+  subst (λ t. StandsAt g.structs t UnitVal m (from_base base 0)) (sym f) (record { shape = refl; cells = tt }),
+  record { tops_held = h.tops; same = λ i a b. refl; size = refl; used = h.used; limit = h.limit },
+)
+result_agrees top base d n l g (Some r) t m s agree calls f le h =
+    let e : Expr = r.value in
+    let x : Spot = stands g e d in
+    let fits : Fits g d n t e = f.0 in
+    let fit = fits.1 in
+    let room = value_room g n t e d fits.0 in
+    let size : size_in g e ≡ cells_for g t = ap (cells_for g) (types_are_found g n t e fits.0) in
+    let inside = read_inside (fixed g e) d in
+    let p : Placed base base d d (cells_for g t) x = fitting base base d n l g t e m s fits (all_before top base d n g m s h) in
+    subst (λ k. AgreesEnd top base g.structs g.tops t m (ev l e s) (go_all (code_of g e d ++ settling x 0 k) base m)) (sym size)
+    (subst (λ q. AgreesEnd top base g.structs g.tops t m (ev l e s) q) (sym (go_all-append (code_of g e d) (settling x 0 (cells_for g t)) base m))
+    (ends_more (λ v s' m'. StandsAt g.structs t v m' (place_of base x) × Kept top base d g m m' s s') (λ s' m'. Kept top base d g m m' s s')
+    (λ v s' m'. StandsAt g.structs t v m' (from_base base 0) × Stopped top base g.structs g.tops m m' s')
+    (λ s' m'. Stopped top base g.structs g.tops m m' s')
+    (ev l e s) (go_all (code_of g e d) base m) (go_all (settling x 0 (cells_for g t)) base)
+    (λ s' m' k. stopped_kept top base d g m m' s s' k)
+    (agree top base d n l g calls t e m s fits.0 fits.1 h)
+    (λ v s1 m1 a.
+    let w = firsts top base d n inside.0 g t v x m m1 s s1 inside.1 h f.1 (omega arith) a.1 a.0 p in
+    subst (λ q. AgreesEnd top base g.structs g.tops t m (Got v s1) q) (sym w.is) (w.so.stands, w.so.stopped))))
 
 -- arguments are the parameters' values
-hold_arguments : (cells : List ℤ) (base i n : ℕ) (ps : List Field) (vs : List Val) → base + n ≤ length cells → length cells < 2 ^ 63 → i + length ps ≤ n → ArgumentsAt cells (base + i) ps vs → Hold cells base (parameters i ps) (arguments ps vs)
-hold_arguments cells base i n [] [] room small le a = tt
-hold_arguments cells base i n [] (v ∷ vs) room small le a = absurd a
-hold_arguments cells base i n (p ∷ ps) [] room small le a = absurd a
-hold_arguments cells base i n (p ∷ ps) (v ∷ vs) room small le a =
-    let t = a.0 in
-    let x = slice_index_or cells (base + i) (pos 0) in
+hold_arguments : (g : Scope) (cells : List ℤ) (base i n : ℕ) (ps : List Field) (vs : List Val) → base + n ≤ length cells → length cells < 2 ^ 63 →
+    i + cells_of_all g ps ≤ n → ArgumentsAt g.structs cells (base + i) ps vs →
+    Hold g.structs cells base (parameters g i ps) (arguments ps vs)
+hold_arguments g cells base i n [] [] room small le a = tt
+hold_arguments g cells base i n [] (v ∷ vs) room small le a = absurd a
+hold_arguments g cells base i n (p ∷ ps) [] room small le a = absurd a
+hold_arguments g cells base i n (p ∷ ps) (v ∷ vs) room small le a =
     let q : from_base base i ≡ base + i = low_place base i (omega arith) in
-    let one : At cells (from_base base i) (x ∷ []) = (omega arith, ap (λ j. slice_index_or cells j (pos 0)) q, tt) in (
-      record {
-        id = refl;
-        cells = subst (At cells (from_base base i)) (sym (cells_is t v x a.3 a.2)) one;
-        size = ap length (cells_is t v x a.3 a.2);
-        form = subst (λ ty. HasForm ty.lengths ty.base v) (sym a.1) (form_is t v x a.2);
-      },
-      hold_arguments cells base (i + 1) n ps vs room small (omega arith) (subst (λ j. ArgumentsAt cells j ps vs) (let e : (base + i) + 1 ≡ base + (i + 1) = omega arith in e) a.4),
+    let k : ℕ = cells_for g (type_of p.ty) in (
+      record { id = refl; cells = subst (λ j. At cells j (cells_of v)) (sym q) a.1; shape = a.0; size = refl },
+      hold_arguments g cells base (i + k) n ps vs room small (omega arith)
+          (subst (λ j. ArgumentsAt g.structs cells j ps vs) (let e : base + i + k ≡ base + (i + k) = omega arith in e) a.2),
     )
 
-order_parameters : (base i n : ℕ) (ps : List Field) → base + n < 2 ^ 63 → i + length ps ≤ n → InOrder base (base + i) (base + (i + length ps)) (parameters i ps)
-order_parameters base i n [] small le = omega arith
-order_parameters base i n (p ∷ ps) small le =
-    let q : from_base base i ≡ base + i = low_place base i (omega arith) in (
+order_parameters : (g : Scope) (base i n : ℕ) (ps : List Field) → base + n < 2 ^ 63 → i + cells_of_all g ps ≤ n →
+    InOrder base (base + i) (base + (i + cells_of_all g ps)) (parameters g i ps)
+order_parameters g base i n [] small le = omega arith
+order_parameters g base i n (p ∷ ps) small le =
+    let q : from_base base i ≡ base + i = low_place base i (omega arith) in
+    let k : ℕ = cells_for g (type_of p.ty) in
+    let high : ℕ = base + (i + (k + cells_of_all g ps)) in (
       omega arith,
-      subst (λ low. InOrder base low (base + (i + suc (length ps))) (parameters (i + 1) ps)) (let e : base + (i + 1) ≡ from_base base i + 1 = omega arith in e)
-          (subst (λ high. InOrder base (base + (i + 1)) high (parameters (i + 1) ps)) (let e : base + ((i + 1) + length ps) ≡ base + (i + suc (length ps)) = omega arith in e) (order_parameters base (i + 1) n ps small (omega arith))),
+      subst (λ low. InOrder base low high (parameters g (i + k) ps)) (let e : base + (i + k) ≡ from_base base i + k = omega arith in e)
+          (subst (λ high. InOrder base (base + (i + k)) high (parameters g (i + k) ps))
+          (let e : base + (i + k + cells_of_all g ps) ≡ high = omega arith in e) (order_parameters g base (i + k) n ps small (omega arith))),
     )
 
 -- what holds where a body begins is what its statements want
-begun : (top base n : ℕ) (g : Scope) (ps : List Field) (vs : List Val) (m : Memory) (s : State) → Begins top base n g ps vs m s → Holds top base (length ps) n (inside g ps) m (entered ps vs s)
+begun : (top base n : ℕ) (g : Scope) (ps : List Field) (vs : List Val) (m : Memory) (s : State) → Begins top base n g ps vs m s →
+    Holds top base (cells_of_all g ps) n (inside g ps) m (entered ps vs s)
 begun top base n g ps vs m s b =
     let room : base + n ≤ length m.cells = b.room in
     let small : length m.cells < 2 ^ 63 = b.small in
-    let fit : length ps ≤ n = b.fit in
+    let fit = b.fit in
     record {
       tops = b.tops;
-      locals = hold_arguments m.cells base 0 n ps vs room small (omega arith) (subst (λ j. ArgumentsAt m.cells j ps vs) (let e : base ≡ base + 0 = omega arith in e) b.arguments);
+      locals = hold_arguments g m.cells base 0 n ps vs room small (omega arith)
+          (subst (λ j. ArgumentsAt g.structs m.cells j ps vs) (let e : base ≡ base + 0 = omega arith in e) b.arguments);
       tops_in = b.tops_in;
-      locals_in = subst (λ low. InOrder base low (base + length ps) (parameters 0 ps)) (let e : base + 0 ≡ base = omega arith in e)
-          (subst (λ high. InOrder base (base + 0) high (parameters 0 ps)) (let e : base + (0 + length ps) ≡ base + length ps = omega arith in e) (order_parameters base 0 n ps (omega arith) (omega arith)));
+      locals_in = subst (λ low. InOrder base low (base + cells_of_all g ps) (parameters g 0 ps)) (let e : base + 0 ≡ base = omega arith in e)
+          (subst (λ high. InOrder base (base + 0) high (parameters g 0 ps))
+          (let e : base + (0 + cells_of_all g ps) ≡ base + cells_of_all g ps = omega arith in e)
+          (order_parameters g base 0 n ps (omega arith) (omega arith)));
       used = b.used;
       limit = b.limit;
       apart = b.apart;
@@ -132,43 +226,96 @@ begun top base n g ps vs m s b =
       small = small;
     }
 
+-- what follows statements at the end of a body
+end_after : (top base d n : ℕ) (g g' : Scope) (t : Ty) (m : Memory) (r : Eval) (q : Ran) (next : Val → State → Eval) (next' : Memory → Ran) →
+    SameTops g g' → AgreesStmt top base d n g m r q →
+    ((v : Val) (s' : State) (m' : Memory) → Went top base d n g m m' s' → AgreesEnd top base g.structs g.tops t m' (next v s') (next' m')) →
+    AgreesEnd top base g'.structs g'.tops t m (then_eval r next) (then_run q next')
+end_after top base d n g g' t m r q next next' z a k =
+    ends_then (λ v s' m'. Went top base d n g m m' s') (λ s' m'. Stopped top base g.structs g.tops m m' s')
+    (λ v s' m'. StandsAt g'.structs t v m' (from_base base 0) × Stopped top base g'.structs g'.tops m m' s')
+    (λ s' m'. Stopped top base g'.structs g'.tops m m' s') r q next next'
+    (λ s' m' x. stopped_in top base g g' m m' s' z x) a
+    (λ v s1 m1 w. ends_less (λ v s' m'. StandsAt g.structs t v m' (from_base base 0) × Stopped top base g.structs g.tops m1 m' s')
+    (λ s' m'. Stopped top base g.structs g.tops m1 m' s')
+    (λ v s' m'. StandsAt g'.structs t v m' (from_base base 0) × Stopped top base g'.structs g'.tops m m' s')
+    (λ s' m'. Stopped top base g'.structs g'.tops m m' s') (next v s1) (next' m1)
+    (λ v s' m' x. (subst (λ structs. StandsAt structs t v m' (from_base base 0)) (sym z.structs) x.0, stops m1 m' s1 s' w x.1))
+    (λ s' m' x. stops m1 m' s1 s' w x) (k v s1 m1 w)) where
+      stops : (m1 m' : Memory) (s1 s' : State) → Went top base d n g m m1 s1 → Stopped top base g.structs g.tops m1 m' s' →
+          Stopped top base g'.structs g'.tops m m' s'
+      stops m1 m' s1 s' w x = stopped_in top base g g' m m' s' z (stopped_from top base g.structs g.tops m m1 m' s'
+          (alike_went top base d n g m m1 s1 w) x)
+
+-- what a body keeps
+body_kept : (top base : ℕ) (g : Scope) (m m' : Memory) (s s' : State) → InOrder base 0 top g.tops → Stopped top base g.structs g.tops m m' s' →
+    Kept top base 0 g m m' s (back s.store.locals s')
+body_kept top base g m m' s s' o a = record {
+  tops = a.tops_held;
+  tops_in = o;
+  locals = refl;
+  same = λ i b c. a.same i b (omega arith);
+  size =
+      a.size;
+  used = a.used;
+  limit = a.limit;
+}
+
 -- a call gives the names of the caller back
-comes_back : (top base k : ℕ) (g : Scope) (t : Base) (m : Memory) (s : State) (r : Eval) (q : Ran) → InOrder base 0 top g.tops → AgreesEnd top base g.tops t m r q → Agrees top base 0 g t (Local 0) m s (returned s.store.locals (left_by k r)) q
-comes_back top base k g t m s (Got v s') (Done m') o a = (a.0, record { tops = a.1.tops_held; tops_in = o; locals = refl; same = λ i b c. a.1.same i b (omega arith); size = a.1.size; used = a.1.used; limit = a.1.limit })
+comes_back : (top base k : ℕ) (g : Scope) (t : Ty) (m : Memory) (s : State) (r : Eval) (q : Ran) → InOrder base 0 top g.tops →
+    AgreesEnd top base g.structs g.tops t m r q → Agrees top base 0 g t (Local 0) m s (returned s.store.locals (left_by k r)) q
+comes_back top base k g t m s (Got v s') (Done m') o a = (
+  a.0,
+  body_kept top base g m m' s (leave k s') o
+      (record { tops_held = a.1.tops_held; same = a.1.same; size = a.1.size; used = a.1.used; limit = a.1.limit }),
+)
 comes_back top base k g t m s (Got v s') (Trapped u m') o a = absurd a
 comes_back top base k g t m s (Got v s') Out o a = absurd a
 comes_back top base k g t m s (Traps u s') (Done m') o a = absurd a
-comes_back top base k g t m s (Traps u s') (Trapped w m') o a = (a.0, record { tops = a.1.tops_held; tops_in = o; locals = refl; same = λ i b c. a.1.same i b (omega arith); size = a.1.size; used = a.1.used; limit = a.1.limit })
+comes_back top base k g t m s (Traps u s') (Trapped w m') o a = (
+  a.0,
+  body_kept top base g m m' s (leave k s') o
+      (record { tops_held = a.1.tops_held; same = a.1.same; size = a.1.size; used = a.1.used; limit = a.1.limit }),
+)
 comes_back top base k g t m s (Traps u s') Out o a = absurd a
 comes_back top base k g t m s RunsOut (Done m') o a = absurd a
 comes_back top base k g t m s RunsOut (Trapped w m') o a = absurd a
 comes_back top base k g t m s RunsOut Out o a = tt
 
--- the value of a body, or unit where it has none
-result_agrees : (top base d n : ℕ) (l : Library) (g : Scope) (fa : Calls top l g.tops g.funs) (tops : List Holder) (r : Option Return) (t : Base) (m0 m : Memory) (s : State) → ResultFits g d n t r → g.tops ≡ tops → Alike top base m0 m → Holds top base d n g m s → AgreesEnd top base tops t m0 (result_of l r s) (go_all (result_code g d r) base m)
-result_agrees top base d n l g fa tops None t m0 m s f z a h = (
-  subst (λ t. IsCell t UnitVal (cell_at (from_base base 0) m)) (sym f) refl,
-  record { tops_held = subst (λ ds. Hold m.cells base ds s.store.tops) z h.tops; same = a.same; size = a.size; used = h.used; limit = h.limit },
-)
-result_agrees top base d n l g fa tops (Some r) t m0 m s f z a h =
-    let positive = room_positive g r.value in
-    let fit = f.1 in
-    subst (λ q. AgreesEnd top base tops t m0 (ev l r.value s) q) (sym (go_all-append (code_of g r.value d) (Copy (Local 0) (stands g r.value d) ∷ []) base m))
-    (value_to_first top base d n g tops t (stands g r.value d) m0 m s (ev l r.value s) (go_all (code_of g r.value d) base m) z h.apart (omega arith) h.room h.small a
-    (coded top base d n l g fa t r.value m s fit f.0 h))
+-- there is still room after statements
+free_after_one : (g : Scope) (d n : ℕ) (a : Stmt) → d ≤ n → Fine g d n a → free_after g d a ≤ n
+free_after_one g d n (VarStmt v) le f = subst (λ t. d + cells_for g t ≤ n) (sym f.1) f.3
+free_after_one g d n (Assign name path e) le f = le
+free_after_one g d n (Call name k es) le f = le
+free_after_one g d n (Error text p) le f = le
+free_after_one g d n (If' e _ a p) le f = le
+free_after_one g d n (IfElse' e _ a _ b p) le f = le
+free_after_one g d n (While' e _ a p) le f = le
+free_after_one g d n (For' name a k _ b p) le f = le
 
--- the code of a body does what a call of the function means, and leaves its value in the body's first cell
-pub body_agrees : (top base n : ℕ) (l : Library) (g : Scope) (fa : Calls top l g.tops g.funs) (ps : List Field) (statements : List Stmt) (r : Option Return) (t : Base) (vs : List Val) (m : Memory) (s : State) → FineBody g n ps statements r t → Begins top base n g ps vs m s → Agrees top base 0 g t (Local 0) m s (called_fun ps (run_body l (record { statements = statements; result = r })) vs s) (go_all (body_code g ps statements r) base m)
-body_agrees top base n l g fa ps statements r t vs m s f b =
-    let g1 = inside g ps in
-    let d1 = length ps in
-    let g2 = scope_after_all g1 d1 statements in
-    let d2 = free_after_all d1 statements in
+free_after_list : (g : Scope) (d n : ℕ) (ss : List Stmt) → d ≤ n → FineAll g d n ss → free_after_all g d ss ≤ n
+free_after_list g d n [] le f = le
+free_after_list g d n (a ∷ more) le f = free_after_list (scope_after g d a) (free_after g d a) n more (free_after_one g d n a le f.0) f.1
+
+-- the code of a body does what a call of the function means, and leaves its value in the body's first cells
+pub body_agrees : (top base n : ℕ) (l : Library) (g : Scope) (ps : List Field) (statements : List Stmt) (r : Option Return) (t : Ty) (vs : List Val)
+    (m : Memory) (s : State) → ExpressionsAgree → Calls top l g.structs g.tops g.funs →
+    FineBody g n ps statements r t → Begins top base n g ps vs m s →
+    Agrees top base 0 g t (Local 0) m s (called_fun ps (run_body l (record { statements = statements; result = r })) vs s)
+    (go_all (body_code g ps statements r) base m)
+body_agrees top base n l g ps statements r t vs m s agree calls f b =
+    let g1 : Scope = inside g ps in
+    let d1 : ℕ = cells_of_all g ps in
+    let g2 : Scope = scope_after_all g1 d1 statements in
+    let d2 : ℕ = free_after_all g1 d1 statements in
     let h = begun top base n g ps vs m s b in
-    let s1 = entered ps vs s in
-    let z : g2.tops ≡ g.tops = (adds_all g1 d1 statements).tops in
+    let s1 : State = entered ps vs s in
+    let adds = adds_all g1 d1 statements in
     comes_back top base (length (arguments ps vs)) g t m s _ _ b.tops_in
-    (subst (λ q. AgreesEnd top base g.tops t m (then_eval (does_all l statements s1) (λ v s2. result_of l r s2)) q) (sym (go_all-append (all_code g1 d1 statements) (result_code g2 d2 r) base m))
-    (end_after top base d2 n g2 g.tops t m (does_all l statements s1) (go_all (all_code g1 d1 statements) base m) (λ v s2. result_of l r s2) (go_all (result_code g2 d2 r) base) z
-    (all_agree top base n l statements d1 g1 fa m s1 f.0 h)
-    (λ v s2 m2 w. result_agrees top base d2 n l g2 (calls_after top l g1 g2 (adds_all g1 d1 statements) fa) g.tops r t m m2 s2 f.1 z (alike_went top base d2 n g2 m m2 s2 w) w.holds)))
+    (subst (λ q. AgreesEnd top base g.structs g.tops t m (then_eval (does_all l statements s1) (λ v s2. result_of l r s2)) q)
+    (sym (go_all-append (all_code g1 d1 statements) (result_code g2 d2 r) base m))
+    (end_after top base d2 n g2 g t m (does_all l statements s1) (go_all (all_code g1 d1 statements) base m) (λ v s2. result_of l r s2)
+    (go_all (result_code g2 d2 r) base) (record { structs = sym adds.structs; tops = sym adds.tops })
+    (all_agree top base n l agree statements d1 g1 calls m s1 f.2 h)
+    (λ v s2 m2 w. result_agrees top base d2 n l g2 r t m2 s2 agree (calls_after top l g1 g2 adds calls) f.3
+    (free_after_list g1 d1 n statements f.1 f.2) w.holds)))

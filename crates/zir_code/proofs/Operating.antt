@@ -1,5 +1,5 @@
 -- Operators, prefixes and conversions make of cells what they make of the values that the cells are.
-use Rattle.std.specs.Prelude.{ℕ, zero, suc, ℤ, pos, negsuc, ◌*ℤ◌, ◌^◌, Bool, true, false, not, ◌≡◌, refl, Result, Ok, Err, nat_lt, ◌⊎◌}
+use Rattle.std.specs.Prelude.{ℕ, List, [], ◌∷◌, zero, suc, ℤ, pos, negsuc, ◌*ℤ◌, ◌^◌, Bool, true, false, not, ◌≡◌, refl, Result, Ok, Err, nat_lt, ◌⊎◌}
 use Rattle.std.proofs.Common.{ap, ◌∙◌, sym, subst, inl, inr}
 use Rattle.std.specs.Int.{int_wrap, int_div_euclid}
 use Rattle.std.specs.Int.RustNames.{int_div, int_rem}
@@ -12,14 +12,57 @@ use Rattle.zir_tree.specs.declared.expr.Prefix.{Prefix}
 use Rattle.zir_tree.specs.declared.expr.Prefix.TheVariants.{Minus, Complement, Not}
 use Rattle.zir_meaning.specs.Values.{wrap, width_of}
 use Rattle.zir_meaning.specs.Operators.{Computed, Gives, Fails, computed, divided, shifted, shifted_if, prefixed, converted}
-use Rattle.zir_cells.specs.Cells.{cell_of}
+use Rattle.zir_cells.specs.Cells.{cell_of, cells_of}
+use Rattle.zir_tree.specs.declared.types.StructDef.{StructDef}
+use Rattle.zir_shapes.specs.Shapes.{Shaped}
+use Rattle.zir_shapes.specs.Offsets.{plain_type as plain}
 use Rattle.zir_expr.specs.Answers.{base_of, cell_or_trap, is_set, operator_of}
 use Rattle.zir_expr.specs.declared.scalar.Change.TheVariants.{Not as NotBit, LowestBit}
 use Rattle.zir_expr.specs.declared.scalar.Operation.TheVariants.{Truth as AtTruth}
 use Rattle.zir_expr.specs.Scalars.{changed, operated}
 use Rattle.zir_code.specs.Coding.{whole_of, bitwise_of, operation_of, change_of, conversion_of}
-use Rattle.zir_code.specs.Typing.{IsWholeType, IsScalar, OperatorFits, PrefixFits, ConversionFits}
-use Rattle.zir_code.specs.Holding.{IsCell}
+use Rattle.zir_code.specs.Typing.{IsWholeType, IsComplexType, IsScalar, OperatorFits, PrefixFits}
+use Rattle.zir_code.specs.Holding.{At}
+use Rattle.zir_code.proofs.Cells.{cell}
+
+-- a bit, a truth value or a whole number, and the one cell that it is
+abbrev pub IsCell : Base → Val → ℤ → Type 0
+IsCell UnitTy v x = ⊥
+IsCell BitTy v x = (b : Bool) × (v ≡ BitVal b) × (x ≡ cell_of b)
+IsCell BoolTy v x = (b : Bool) × (v ≡ BoolVal b) × (x ≡ cell_of b)
+IsCell Int8 v x = v ≡ Num x
+IsCell Int16 v x = v ≡ Num x
+IsCell Int32 v x = v ≡ Num x
+IsCell Int64 v x = v ≡ Num x
+IsCell Complex16 v x = ⊥
+IsCell Complex32 v x = ⊥
+IsCell (StructTy k) v x = ⊥
+
+-- it is the one cell of its value
+pub cells_is : (t : Base) (v : Val) (x : ℤ) → IsCell t v x → cells_of v ≡ x ∷ []
+cells_is UnitTy v x i = absurd i
+cells_is BitTy v x i = rw (i.1, i.2) refl
+cells_is BoolTy v x i = rw (i.1, i.2) refl
+cells_is Int8 v x i = rw i refl
+cells_is Int16 v x i = rw i refl
+cells_is Int32 v x i = rw i refl
+cells_is Int64 v x i = rw i refl
+cells_is Complex16 v x i = absurd i
+cells_is Complex32 v x i = absurd i
+cells_is (StructTy k) v x i = absurd i
+
+-- and the value has the shape of its type
+pub shape_is : (structs : List StructDef) (t : Base) (v : Val) (x : ℤ) → IsCell t v x → Shaped structs (plain t) v
+shape_is structs UnitTy v x i = absurd i
+shape_is structs BitTy v x i = (i.0, i.1)
+shape_is structs BoolTy v x i = (i.0, i.1)
+shape_is structs Int8 v x i = (x, i)
+shape_is structs Int16 v x i = (x, i)
+shape_is structs Int32 v x i = (x, i)
+shape_is structs Int64 v x i = (x, i)
+shape_is structs Complex16 v x i = absurd i
+shape_is structs Complex32 v x i = absurd i
+shape_is structs (StructTy k) v x i = absurd i
 
 -- a whole number is its cell
 pub num_is : (t : Base) (v : Val) (x : ℤ) → IsWholeType t → IsCell t v x → v ≡ Num x
@@ -149,45 +192,94 @@ on_same o u w t v v' x y f i j bits truths wholes =
       ]
     ]
 
+-- a value whose type has one cell stands in it
+pub cell_from : (structs : List StructDef) (cells : List ℤ) (i : ℕ) (t : Base) (v : Val) → IsScalar t → Shaped structs (plain t) v →
+    At cells i (cells_of v) → IsCell t v (cell cells i)
+cell_from structs cells i t v s f a = elim s [
+  | inl e ↦ (let P : Base → Type 0 = λ t. IsCell t v (cell cells i) in subst P (sym e) (from_bit (subst (λ t. Shaped structs (plain t) v) e f)))
+  | inr r ↦ elim r [
+    | inl e ↦ (let P : Base → Type 0 = λ t. IsCell t v (cell cells i) in subst P (sym e) (from_truth (subst (λ t. Shaped structs (plain t) v) e f)))
+    | inr w ↦ whole_cases (λ t. Shaped structs (plain t) v → IsCell t v (cell cells i)) from_number from_number from_number from_number t w f
+  ]
+] where
+  from_bit : Shaped structs (plain BitTy) v → IsCell BitTy v (cell cells i)
+  from_bit f = (f.0, f.1, (subst (λ v. At cells i (cells_of v)) f.1 a).1)
+
+  from_truth : Shaped structs (plain BoolTy) v → IsCell BoolTy v (cell cells i)
+  from_truth f = (f.0, f.1, (subst (λ v. At cells i (cells_of v)) f.1 a).1)
+
+  from_number : (n : ℤ) × (v ≡ Num n) → v ≡ Num (cell cells i)
+  from_number f = f.1 ∙ ap Num (sym (subst (λ v. At cells i (cells_of v)) f.1 a).1)
+
+-- no bit, no truth value and no whole number is complex
+pub scalar_not_complex : (u : Base) → IsScalar u → IsComplexType u → ⊥
+scalar_not_complex UnitTy s c = c
+scalar_not_complex BitTy s c = c
+scalar_not_complex BoolTy s c = c
+scalar_not_complex Int8 s c = c
+scalar_not_complex Int16 s c = c
+scalar_not_complex Int32 s c = c
+scalar_not_complex Int64 s c = c
+scalar_not_complex Complex16 (inl e) c = cc
+scalar_not_complex Complex16 (inr (inl e)) c = cc
+scalar_not_complex Complex16 (inr (inr w)) c = w
+scalar_not_complex Complex32 (inl e) c = cc
+scalar_not_complex Complex32 (inr (inl e)) c = cc
+scalar_not_complex Complex32 (inr (inr w)) c = w
+scalar_not_complex (StructTy k) s c = c
+
+number_whole : (u : Base) → IsScalar u → IsWholeType u ⊎ IsComplexType u → IsWholeType u
+number_whole u s (inl w) = w
+number_whole u s (inr c) = absurd (scalar_not_complex u s c)
+
 -- the operators of both sides, all but `||` and `&&`
 abbrev pub TakesBoth : Operator → Type 0
 TakesBoth Or = ⊥
 TakesBoth And = ⊥
 TakesBoth _ = Unit {0}
 
-pub operates : (o : Operator) (u w t : Base) (v v' : Val) (x y : ℤ) → TakesBoth o → OperatorFits o u w t → IsCell u v x → IsCell w v' y → SameAnswer t (computed o u v v') (operated (operation_of o u) x y)
-operates Or u w t v v' x y b f i j = absurd b
-operates And u w t v v' x y b f i j = absurd b
-operates BitOr u w t v v' x y b f i j = on_bits BitOr u w t v v' x y f i j (λ a b. (_, refl, refl)) (λ u a. is_num u _ a)
-operates BitXor u w t v v' x y b f i j = on_bits BitXor u w t v v' x y f i j (λ a b. (_, refl, refl)) (λ u a. is_num u _ a)
-operates BitAnd u w t v v' x y b f i j = on_bits BitAnd u w t v v' x y f i j (λ a b. (_, refl, refl)) (λ u a. is_num u _ a)
-operates Equal u w t v v' x y b f i j = on_same Equal u w t v v' x y f i j (λ a b. (_, refl, refl)) (λ a b. (_, refl, refl)) (λ u. (_, refl, refl))
-operates NotEqual u w t v v' x y b f i j = on_same NotEqual u w t v v' x y f i j (λ a b. (_, refl, refl)) (λ a b. (_, refl, refl)) (λ u. (_, refl, refl))
-operates Less u w t v v' x y b f i j = on_order Less u w t v v' x y f i j (_, refl, refl)
-operates LessEqual u w t v v' x y b f i j = on_order LessEqual u w t v v' x y f i j (_, refl, refl)
-operates Greater u w t v v' x y b f i j = on_order Greater u w t v v' x y f i j (_, refl, refl)
-operates GreaterEqual u w t v v' x y b f i j = on_order GreaterEqual u w t v v' x y f i j (_, refl, refl)
-operates ShiftLeft u w t v v' x y b f i j = same_as_left ShiftLeft u w t v v' x y f.0 f.1 f.2 i j (shifts_same (λ m n. m *ℤ n) u x y f.0)
-operates ShiftRight u w t v v' x y b f i j = same_as_left ShiftRight u w t v v' x y f.0 f.1 f.2 i j (shifts_same int_div_euclid u x y f.0)
-operates Add u w t v v' x y b f i j = on_wholes Add u w t v v' x y f i j (is_num u _ f.0)
-operates Subtract u w t v v' x y b f i j = on_wholes Subtract u w t v v' x y f i j (is_num u _ f.0)
-operates Multiply u w t v v' x y b f i j = on_wholes Multiply u w t v v' x y f i j (is_num u _ f.0)
-operates Divide u w t v v' x y b f i j = on_wholes Divide u w t v v' x y f i j (divides_same int_div u x y f.0)
-operates Remainder u w t v v' x y b f i j = on_wholes Remainder u w t v v' x y f i j (divides_same int_rem u x y f.0)
+-- an operator of both sides makes of two cells what it makes of their values; its left side is a bit, a truth value or a whole number
+pub operates : (o : Operator) (u w t : Base) (v v' : Val) (x y : ℤ) → TakesBoth o → IsScalar u → OperatorFits o u w t → IsCell u v x → IsCell w v' y →
+    SameAnswer t (computed o u v v') (operated (operation_of o u) x y)
+operates Or u w t v v' x y b sc f i j = absurd b
+operates And u w t v v' x y b sc f i j = absurd b
+operates BitOr u w t v v' x y b sc f i j = on_bits BitOr u w t v v' x y f i j (λ a b. (_, refl, refl)) (λ u a. is_num u _ a)
+operates BitXor u w t v v' x y b sc f i j = on_bits BitXor u w t v v' x y f i j (λ a b. (_, refl, refl)) (λ u a. is_num u _ a)
+operates BitAnd u w t v v' x y b sc f i j = on_bits BitAnd u w t v v' x y f i j (λ a b. (_, refl, refl)) (λ u a. is_num u _ a)
+operates Equal u w t v v' x y b sc f i j =
+    on_same Equal u w t v v' x y (sc, f.1, f.2) i j (λ a b. (_, refl, refl)) (λ a b. (_, refl, refl)) (λ u. (_, refl, refl))
+operates NotEqual u w t v v' x y b sc f i j =
+    on_same NotEqual u w t v v' x y (sc, f.1, f.2) i j (λ a b. (_, refl, refl)) (λ a b. (_, refl, refl)) (λ u. (_, refl, refl))
+operates Less u w t v v' x y b sc f i j = on_order Less u w t v v' x y f i j (_, refl, refl)
+operates LessEqual u w t v v' x y b sc f i j = on_order LessEqual u w t v v' x y f i j (_, refl, refl)
+operates Greater u w t v v' x y b sc f i j = on_order Greater u w t v v' x y f i j (_, refl, refl)
+operates GreaterEqual u w t v v' x y b sc f i j = on_order GreaterEqual u w t v v' x y f i j (_, refl, refl)
+operates ShiftLeft u w t v v' x y b sc f i j = same_as_left ShiftLeft u w t v v' x y f.0 f.1 f.2 i j (shifts_same (λ m n. m *ℤ n) u x y f.0)
+operates ShiftRight u w t v v' x y b sc f i j = same_as_left ShiftRight u w t v v' x y f.0 f.1 f.2 i j (shifts_same int_div_euclid u x y f.0)
+operates Add u w t v v' x y b sc f i j =
+    let whole = number_whole u sc f.0 in on_wholes Add u w t v v' x y (whole, f.1, f.2) i j (is_num u _ whole)
+operates Subtract u w t v v' x y b sc f i j =
+    let whole = number_whole u sc f.0 in on_wholes Subtract u w t v v' x y (whole, f.1, f.2) i j (is_num u _ whole)
+operates Multiply u w t v v' x y b sc f i j =
+    let whole = number_whole u sc f.0 in on_wholes Multiply u w t v v' x y (whole, f.1, f.2) i j (is_num u _ whole)
+operates Divide u w t v v' x y b sc f i j = on_wholes Divide u w t v v' x y f i j (divides_same int_div u x y f.0)
+operates Remainder u w t v v' x y b sc f i j = on_wholes Remainder u w t v v' x y f i j (divides_same int_rem u x y f.0)
 
 -- a prefix makes of a cell what it makes of its value
-pub changes : (o : Prefix) (u : Base) (v : Val) (x : ℤ) → PrefixFits o u → IsCell u v x → IsCell u (prefixed o u v) (changed (change_of o u) x)
-changes Minus u v x f i =
-    subst (λ v. IsCell u (prefixed Minus u v) (changed (change_of Minus u) x)) (sym (num_is u v x f i))
-    (whole_cases (λ u. IsCell u (prefixed Minus u (Num x)) (changed (change_of Minus u) x)) refl refl refl refl u f)
-changes Complement u v x f i = elim f [
+pub changes : (o : Prefix) (u : Base) (v : Val) (x : ℤ) → IsScalar u → PrefixFits o u → IsCell u v x →
+    IsCell u (prefixed o u v) (changed (change_of o u) x)
+changes Minus u v x sc f i =
+    let whole = number_whole u sc f in
+    subst (λ v. IsCell u (prefixed Minus u v) (changed (change_of Minus u) x)) (sym (num_is u v x whole i))
+    (whole_cases (λ u. IsCell u (prefixed Minus u (Num x)) (changed (change_of Minus u) x)) refl refl refl refl u whole)
+changes Complement u v x sc f i = elim f [
   | inl e ↦ subst (λ u. IsCell u (prefixed Complement u v) (changed (change_of Complement u) x)) (sym e) (bit (subst (λ u. IsCell u v x) e i))
   | inr w ↦ subst (λ v. IsCell u (prefixed Complement u v) (changed (change_of Complement u) x)) (sym (num_is u v x w i))
       (whole_cases (λ u. IsCell u (prefixed Complement u (Num x)) (changed (change_of Complement u) x)) refl refl refl refl u w)
 ] where
   bit : IsCell BitTy v x → IsCell BitTy (prefixed Complement BitTy v) (changed NotBit x)
   bit i = rw (i.1, i.2) (not i.0, refl, ap (λ b. cell_of (not b)) (is_set_cell i.0))
-changes Not u v x f i =
+changes Not u v x sc f i =
     subst (λ u. IsCell u (prefixed Not u v) (changed NotBit x)) (sym f) (truth (subst (λ u. IsCell u v x) f i)) where
       truth : IsCell BoolTy v x → IsCell BoolTy (prefixed Not BoolTy v) (changed NotBit x)
       truth i = rw (i.1, i.2) (not i.0, refl, ap (λ b. cell_of (not b)) (is_set_cell i.0))
@@ -202,7 +294,7 @@ bit_as_whole true = whole_cases (λ u. IsCell u (converted u (BitVal true)) (cha
 bit_as_whole false = whole_cases (λ u. IsCell u (converted u (BitVal false)) (changed (conversion_of u) (cell_of false))) refl refl refl refl
 
 -- a conversion makes of a cell what it makes of its value
-pub converts : (u w : Base) (v : Val) (x : ℤ) → ConversionFits u w → IsCell w v x → IsCell u (converted u v) (changed (conversion_of u) x)
+pub converts : (u w : Base) (v : Val) (x : ℤ) → ((u ≡ BitTy) ⊎ IsWholeType u) × ((w ≡ BitTy) ⊎ IsWholeType w) → IsCell w v x → IsCell u (converted u v) (changed (conversion_of u) x)
 converts u w v x f i = elim f.1 [
   | inl e ↦ from_bit (subst (λ w. IsCell w v x) e i)
   | inr a ↦ subst (λ v. IsCell u (converted u v) (changed (conversion_of u) x)) (sym (num_is w v x a i)) from_number

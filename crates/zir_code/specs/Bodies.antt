@@ -9,20 +9,20 @@ use Rattle.zir_tree.specs.declared.stmt.Stmt.{Stmt}
 use Rattle.zir_tree.specs.declared.stmt.Return.{Return}
 use Rattle.zir_meaning.specs.Values.{type_of}
 use Rattle.zir_meaning.specs.Trace.{State}
-use Rattle.zir_meaning.specs.Evaluation.{Eval, Got, Traps, RunsOut}
+use Rattle.zir_meaning.specs.Evaluation.{Eval}
 use Rattle.zir_cells.specs.Cells.{cells_of}
 use Rattle.zir_cells.specs.Layout.{layout_of}
 use Rattle.zir_shapes.specs.Shapes.{Shaped, StructsBefore}
 use Rattle.zir_shapes.specs.Offsets.{plain_type as plain}
 use Rattle.zir_expr.specs.declared.frame.Spot.TheVariants.{Local}
 use Rattle.zir_expr.specs.declared.steps.Step.{Step}
-use Rattle.zir_expr.specs.Memory.{Ran, Done, Trapped, Out, from_base}
+use Rattle.zir_expr.specs.Memory.{Ran, from_base}
 use Rattle.zir_expr.specs.Memory.Frames.{Memory}
 use Rattle.zir_code.specs.declared.scope.Holder.{Holder}
 use Rattle.zir_code.specs.Scopes.{Scope}
 use Rattle.zir_code.specs.Types.{cells_for, size_in}
 use Rattle.zir_code.specs.Coding.{stands, code_of, settling}
-use Rattle.zir_code.specs.Holding.{At, StandsAt, Hold, InOrder}
+use Rattle.zir_code.specs.Holding.{At, StandsAt, Hold, InOrder, Ends}
 use Rattle.zir_code.specs.Statements.{stmt_code, scope_after, free_after}
 use Rattle.zir_code.specs.Fine.{Fine, Fits, Stopped}
 
@@ -112,12 +112,5 @@ pub record Begins (top base n : ℕ) (g : Scope) (ps : List Field) (vs : List Va
 
 -- a body ends as it means, with its value in its first cells
 abbrev pub AgreesEnd : ℕ → ℕ → List StructDef → List Holder → Ty → Memory → Eval → Ran → Type 0
-AgreesEnd top base structs tops t m (Got v s') (Done m') = StandsAt structs t v m' (from_base base 0) × Stopped top base structs tops m m' s'
-AgreesEnd top base structs tops t m (Got v s') (Trapped u m') = ⊥
-AgreesEnd top base structs tops t m (Got v s') Out = ⊥
-AgreesEnd top base structs tops t m (Traps u s') (Done m') = ⊥
-AgreesEnd top base structs tops t m (Traps u s') (Trapped w m') = (u ≡ w) × Stopped top base structs tops m m' s'
-AgreesEnd top base structs tops t m (Traps u s') Out = ⊥
-AgreesEnd top base structs tops t m RunsOut (Done m') = ⊥
-AgreesEnd top base structs tops t m RunsOut (Trapped w m') = ⊥
-AgreesEnd top base structs tops t m RunsOut Out = Unit {0}
+AgreesEnd top base structs tops t m r q =
+    Ends (λ v s' m'. StandsAt structs t v m' (from_base base 0) × Stopped top base structs tops m m' s') (λ s' m'. Stopped top base structs tops m m' s') r q

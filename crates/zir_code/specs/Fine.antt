@@ -10,10 +10,10 @@ use Rattle.zir_tree.specs.declared.stmt.Access.TheVariants.{Index, Slice, Part}
 use Rattle.zir_tree.specs.declared.stmt.Stmt.{Stmt, Var as VarStmt, Assign, Call, Error, If', IfElse', While', For', Row_of-Stmt, end_of-Stmt, more_of-Stmt}
 use Rattle.zir_meaning.specs.Values.{type_of}
 use Rattle.zir_meaning.specs.Trace.{State}
-use Rattle.zir_meaning.specs.Evaluation.{Eval, Got, Traps, RunsOut}
+use Rattle.zir_meaning.specs.Evaluation.{Eval}
 use Rattle.zir_shapes.specs.Shapes.{StructsBefore}
 use Rattle.zir_shapes.specs.Offsets.{plain_type as plain, array_type as array_of}
-use Rattle.zir_expr.specs.Memory.{Ran, Done, Trapped, Out}
+use Rattle.zir_expr.specs.Memory.{Ran}
 use Rattle.zir_expr.specs.Memory.Frames.{Memory}
 use Rattle.zir_code.specs.declared.scope.Holder.{Holder}
 use Rattle.zir_code.specs.declared.scope.Signature.{Signature}
@@ -22,7 +22,7 @@ use Rattle.zir_code.specs.Types.{cells_for}
 use Rattle.zir_code.specs.Peaks.{peak_of, peak_of_all}
 use Rattle.zir_code.specs.Statements.{with_index, scope_after, free_after, storing_peak}
 use Rattle.zir_code.specs.Typing.{IsWholeType, PartFits, HolderFits, Has, AllFit}
-use Rattle.zir_code.specs.Holding.{Hold, Holds}
+use Rattle.zir_code.specs.Holding.{Hold, Holds, Ends}
 
 -- none of these variables has this number
 abbrev pub Absent : List Holder → ℕ → Type 0
@@ -93,12 +93,4 @@ pub record Stopped (top base : ℕ) (structs : List StructDef) (tops : List Hold
 
 -- code of statements ends as they mean
 abbrev pub AgreesStmt : ℕ → ℕ → ℕ → ℕ → Scope → Memory → Eval → Ran → Type 0
-AgreesStmt top base d n g m (Got v s') (Done m') = Went top base d n g m m' s'
-AgreesStmt top base d n g m (Got v s') (Trapped u m') = ⊥
-AgreesStmt top base d n g m (Got v s') Out = ⊥
-AgreesStmt top base d n g m (Traps u s') (Done m') = ⊥
-AgreesStmt top base d n g m (Traps u s') (Trapped w m') = (u ≡ w) × Stopped top base g.structs g.tops m m' s'
-AgreesStmt top base d n g m (Traps u s') Out = ⊥
-AgreesStmt top base d n g m RunsOut (Done m') = ⊥
-AgreesStmt top base d n g m RunsOut (Trapped w m') = ⊥
-AgreesStmt top base d n g m RunsOut Out = Unit {0}
+AgreesStmt top base d n g m r q = Ends (λ v s' m'. Went top base d n g m m' s') (λ s' m'. Stopped top base g.structs g.tops m m' s') r q

@@ -66,14 +66,19 @@ pub record StandsAt (structs : List StructDef) (t : Ty) (v : Val) (m : Memory) (
   pub shape : Shaped structs t v
   pub cells : At m.cells at (cells_of v)
 
+-- code ends as the meaning says: with a value that is so, or by the same trap, with what then holds
+abbrev pub Ends : (Val → State → Memory → Type 0) → (State → Memory → Type 0) → Eval → Ran → Type 0
+Ends P Q (Got v s') (Done m') = P v s' m'
+Ends P Q (Got v s') (Trapped u m') = ⊥
+Ends P Q (Got v s') Out = ⊥
+Ends P Q (Traps u s') (Done m') = ⊥
+Ends P Q (Traps u s') (Trapped w m') = (u ≡ w) × Q s' m'
+Ends P Q (Traps u s') Out = ⊥
+Ends P Q RunsOut (Done m') = ⊥
+Ends P Q RunsOut (Trapped w m') = ⊥
+Ends P Q RunsOut Out = Unit {0}
+
 -- code ends as the meaning says, with the value in the cells from a spot on
 abbrev pub Agrees : ℕ → ℕ → ℕ → Scope → Ty → Spot → Memory → State → Eval → Ran → Type 0
-Agrees top base d g t spot m s (Got v s') (Done m') = StandsAt g.structs t v m' (place_of base spot) × Kept top base d g m m' s s'
-Agrees top base d g t spot m s (Got v s') (Trapped u m') = ⊥
-Agrees top base d g t spot m s (Got v s') Out = ⊥
-Agrees top base d g t spot m s (Traps u s') (Done m') = ⊥
-Agrees top base d g t spot m s (Traps u s') (Trapped w m') = (u ≡ w) × Kept top base d g m m' s s'
-Agrees top base d g t spot m s (Traps u s') Out = ⊥
-Agrees top base d g t spot m s RunsOut (Done m') = ⊥
-Agrees top base d g t spot m s RunsOut (Trapped w m') = ⊥
-Agrees top base d g t spot m s RunsOut Out = Unit {0}
+Agrees top base d g t spot m s r q =
+    Ends (λ v s' m'. StandsAt g.structs t v m' (place_of base spot) × Kept top base d g m m' s s') (λ s' m'. Kept top base d g m m' s s') r q

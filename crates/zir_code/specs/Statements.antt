@@ -1,6 +1,6 @@
 -- The code of statements.
 use Rattle.std.specs.Prelude.{ℕ, zero, suc, pos, ◌+◌, max, List, [], ◌∷◌, ◌++◌, Bool, true, false, ◌&&◌, Option, Some, None}
-use Rattle.zir_tree.specs.declared.types.Base.TheVariants.{Bool as BoolTy, Int32}
+use Rattle.zir_tree.specs.declared.types.Base.TheVariants.{Int32}
 use Rattle.zir_tree.specs.declared.types.Ty.{Ty}
 use Rattle.zir_tree.specs.declared.expr.Expr.{Expr}
 use Rattle.zir_tree.specs.declared.stmt.Access.{Access}

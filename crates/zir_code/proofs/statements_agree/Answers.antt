@@ -1,5 +1,6 @@
-use Rattle.zir_code.proofs.Bodies.{all_agree}
+use Rattle.zir_code.proofs.Simulation.{coded}
+use Rattle.zir_code.proofs.Bodies.{lists_agree}
 use Rattle.zir_code.proofs.statements_agree.Goals as goal
 
 pub returns : goal.returns
-returns c top base d n l g fa ss m s h holds = all_agree top base n l ss d g fa m s h holds
+returns c = lists_agree (λ top base d n l g calls t e m s has room h. coded top base n l g calls t e d m s room has h)
