@@ -74,7 +74,7 @@ mutual
   found_room g n t (Complex' u _ (more_of-Expr a end_of-Expr) _ (more_of-Expr b end_of-Expr) p) d h =
       let e : layout_of g.structs (plain u) ≡ 2 = complex_size g.structs u h.0 in omega arith
 
-  elements_room : {k : _} (g : Scope) (n : ℕ) (u : Ty) (es : Row_of-Expr k) (d : ℕ) → ElementsFit g n u es →
+  pub elements_room : {k : _} (g : Scope) (n : ℕ) (u : Ty) (es : Row_of-Expr k) (d : ℕ) → ElementsFit g n u es →
       d + count_of es * layout_of g.structs u ≤ arguments_peak g es d
   elements_room g n u end_of-Expr d h = omega arith
   elements_room g n u (more_of-Expr e es) d h =
