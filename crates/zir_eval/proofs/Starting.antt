@@ -1,11 +1,12 @@
 -- What holds at the top of a program.
-use Rattle.std.specs.Prelude.{ℕ, suc, ℤ, pos, ◌+◌, ◌<◌, ◌≤◌, ◌^◌, List, [], ◌∷◌, true, Option, ◌≡◌, nat_lt, length, map, slice_index_or, replicate, refl}
+use Rattle.std.specs.Prelude.{ℕ, zero, suc, ℤ, pos, ◌+◌, ◌<◌, ◌≤◌, ◌^◌, List, [], ◌∷◌, true, Option, ◌≡◌, nat_lt, length, map, slice_index_or, replicate, refl}
 use Rattle.std.proofs.Common.{ap, sym, subst, ◌∙◌, arith}
 use Rattle.std.proofs.lemmas.Bool.Decides.{nat_tests}
+use Rattle.std.proofs.lemmas.List.Sums.{sum_by-cons}
 use Rattle.zir_tree.specs.declared.types.StructDef.{StructDef}
 use Rattle.zir_tree.specs.declared.stmt.Var.{Var}
 use Rattle.zir_tree.specs.declared.program.Core.{Core}
-use Rattle.zir_meaning.specs.Values.{type_of, blank, blanks_of}
+use Rattle.zir_meaning.specs.Values.{type_of, blanks_of}
 use Rattle.zir_meaning.specs.Functions.{library_of}
 use Rattle.zir_cells.specs.Cells.{cells_of}
 use Rattle.zir_cells.specs.Layout.{layout_of}
@@ -18,35 +19,38 @@ use Rattle.zir_code.specs.Holding.{At, Hold, InOrder, Holds}
 use Rattle.zir_code.specs.Calls.{AllTop}
 use Rattle.zir_compile.specs.Signing.{no_signature, signatures_of}
 use Rattle.zir_compile.proofs.Typed.{all_signed}
-use Rattle.zir_eval.specs.Opening.{cells_for_var, cells_for_vars, top_holders, held_cells, top_cells, program_scope, IsBlank, blank_slots, VarsKnown, KnowsTypes}
+use Rattle.zir_eval.specs.Opening.{cells_for_var, cells_for_vars, top_holder, top_holders, held_cells, top_cells, program_scope, IsBlank, blank_slots, VarsKnown, KnowsTypes}
 use Rattle.zir_eval.specs.Laws.{BlankFramesHold, FunctionsMean}
 use Rattle.zir_eval.proofs.Laws.{functions_agree}
 
 -- the top variables have the cells of their types
 pub cells_held : (structs : List StructDef) (i : ℕ) (vs : List Var) → held_cells (top_holders structs i vs) ≡ cells_for_vars structs vs
 cells_held structs i [] = refl
-cells_held structs i (v ∷ vs) = ap (λ n. cells_for_var structs v + n) (cells_held structs (i + cells_for_var structs v) vs)
+cells_held structs i (v ∷ vs) =
+    sum_by-cons (λ (d : Holder). d.cells) (top_holder structs i v) (top_holders structs (i + cells_for_var structs v) vs)
+    ∙ ap (λ n. cells_for_var structs v + n) (cells_held structs (i + cells_for_var structs v) vs) ∙ sym (sum_by-cons (cells_for_var structs) v vs)
 
 -- cells of 0 stand wherever all cells are 0
 zeros_stand : (cells : List ℤ) (i n : ℕ) → ((k : ℕ) → slice_index_or cells k (pos 0) ≡ pos 0) → i + n ≤ length cells → At cells i (zeros n)
-zeros_stand cells i 0 zero le = tt
-zeros_stand cells i (suc n) zero le = (omega arith, zero i, zeros_stand cells (i + 1) n zero (omega arith))
+zeros_stand cells i zero blank le = tt
+zeros_stand cells i (suc n) blank le = (omega arith, blank i, zeros_stand cells (i + 1) n blank (omega arith))
 
 -- cells of 0 hold the blank values of variables
 hold_blanks : (structs : List StructDef) (cells : List ℤ) (base i : ℕ) (vs : List Var) → Ordered structs → VarsKnown (length structs) vs →
     ((k : ℕ) → slice_index_or cells k (pos 0) ≡ pos 0) → i + cells_for_vars structs vs ≤ length cells →
     Hold structs cells base (top_holders structs i vs) (blank_slots (blanks_of structs) vs)
-hold_blanks structs cells base i [] o k zero le = tt
-hold_blanks structs cells base i (v ∷ vs) o k zero le =
+hold_blanks structs cells base i [] o k blank le = tt
+hold_blanks structs cells base i (v ∷ vs) o k blank le =
     let b = blanks-have structs (type_of v.ty) o k.0 in
+    let sum : cells_for_vars structs (v ∷ vs) ≡ cells_for_var structs v + cells_for_vars structs vs = sum_by-cons (cells_for_var structs) v vs in
     (
       record {
         id = refl;
-        cells = subst (At cells i) (sym b.cells) (zeros_stand cells i (cells_for_var structs v) zero (omega arith));
+        cells = subst (At cells i) (sym b.cells) (zeros_stand cells i (cells_for_var structs v) blank (omega (arith, sum, le)));
         shape = b.shape;
         size = refl;
       },
-      hold_blanks structs cells base (i + cells_for_var structs v) vs o k.1 zero (omega arith),
+      hold_blanks structs cells base (i + cells_for_var structs v) vs o k.1 blank (omega (arith, sum, le)),
     )
 
 order_tops : (structs : List StructDef) (base i : ℕ) (vs : List Var) → InOrder base i (i + cells_for_vars structs vs) (top_holders structs i vs)
@@ -56,7 +60,7 @@ order_tops structs base i (v ∷ vs) =
     (
       omega arith,
       subst (λ high. InOrder base (i + n) high (top_holders structs (i + n) vs))
-          (let e : i + n + cells_for_vars structs vs ≡ i + (n + cells_for_vars structs vs) = omega arith in e) (order_tops structs base (i + n) vs),
+          (let e : i + n + cells_for_vars structs vs ≡ i + cells_for_vars structs (v ∷ vs) = omega (arith, sum_by-cons (cells_for_var structs) v vs) in e) (order_tops structs base (i + n) vs),
     )
 
 all_top : (structs : List StructDef) (i : ℕ) (vs : List Var) → AllTop (top_holders structs i vs)
