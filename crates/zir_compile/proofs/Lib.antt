@@ -1,4 +1,5 @@
 pub mod Along
+pub mod Blocks
 pub mod Expressed
 pub mod Finding
 pub mod Forms
@@ -8,5 +9,6 @@ pub mod Listed
 pub mod Literals
 pub mod Making
 pub mod Parts
+pub mod Rows
 pub mod Sizes
 pub mod Storing
