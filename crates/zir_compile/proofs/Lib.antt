@@ -12,3 +12,7 @@ pub mod Parts
 pub mod Rows
 pub mod Sizes
 pub mod Storing
+pub mod Placing
+pub mod Settled
+pub mod Signed
+pub mod Typed
