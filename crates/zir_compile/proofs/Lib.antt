@@ -1,4 +1,5 @@
 pub mod Along
+pub mod Blocks
 pub mod Expressed
 pub mod Finding
 pub mod Forms
@@ -8,4 +9,10 @@ pub mod Listed
 pub mod Literals
 pub mod Making
 pub mod Parts
+pub mod Rows
 pub mod Sizes
+pub mod Storing
+pub mod Placing
+pub mod Settled
+pub mod Signed
+pub mod Typed

@@ -6,3 +6,5 @@ pub mod Sides
 pub mod Coded
 pub mod Made
 pub mod Stated
+pub mod Bodied
+pub mod Signing
