@@ -1,5 +1,5 @@
 -- What it is for the code of statements to be made.
-use Rattle.std.specs.Prelude.{ℕ, pos, ◌+◌, ◌<◌, ◌^◌, max, List, [], ◌∷◌, ◌++◌, Bool, true, false, ◌&&◌, Option, Some, None, ◌≡◌}
+use Rattle.std.specs.Prelude.{ℕ, pos, ◌+◌, ◌<◌, ◌^◌, max, List, [], ◌∷◌, ◌++◌, Bool, true, false, Option, Some, None, ◌≡◌}
 use Rattle.zir_tree.specs.declared.types.Base.TheVariants.{Int32}
 use Rattle.zir_tree.specs.declared.types.Ty.{Ty}
 use Rattle.zir_tree.specs.declared.expr.Expr.{Expr}
@@ -14,17 +14,15 @@ use Rattle.zir_code.specs.declared.scope.Holder.{Holder}
 use Rattle.zir_code.specs.Scopes.{Scope, shifted, number_of}
 use Rattle.zir_code.specs.Types.{element_type, part_type, part_offset}
 use Rattle.zir_code.specs.Coding.{stands, code_of, settling, to_element, to_slice}
-use Rattle.zir_code.specs.Peaks.{peak_of, is_coded, counts_elements}
+use Rattle.zir_code.specs.Peaks.{peak_of}
 use Rattle.zir_code.specs.Statements.{stmt_code, scope_after, free_after, along_code, along_shift, along_peak, along_coded, storing_peak, storing_coded}
 use Rattle.zir_code.specs.Needs.{stmt_peak, stmt_coded, all_peak, all_stmts_coded, initial_coded}
 use Rattle.zir_code.specs.Bodies.{all_code, scope_after_all, free_after_all}
-use Rattle.zir_compile.specs.declared.made.Path.{Path}
 use Rattle.zir_compile.specs.declared.made.Reach.{Reach}
 use Rattle.zir_compile.specs.declared.made.Block.{Block}
 use Rattle.zir_compile.specs.declared.made.Range.{Range}
 use Rattle.zir_compile.specs.declared.scope.Names.{Names}
-use Rattle.zir_compile.specs.Extents.{type_at}
-use Rattle.zir_compile.specs.Coded.{Fits, IndexFits, Leads}
+use Rattle.zir_compile.specs.Coded.{Fits, IndexFits}
 
 -- names have come into scope behind the others, and nothing else
 pub record Moved (old new : Names) : Type 0 where

@@ -115,7 +115,13 @@ impl Names {
     }
 
     /// Adds the code of one access behind a path.
-    fn access(&self, alloc: Global, access: &Access, base: Path, steps: &mut Vec<Step>) -> Result<Path, Unmade>
+    fn access(
+        &self,
+        alloc: Global,
+        access: &Access,
+        base: Path,
+        steps: &mut Vec<Step>,
+    ) -> Result<Path, Unmade>
         ensures { let g = scope_of self.now in let ty = type_at base.ty in let o = base.offset in
             Makes (stated.AccessFits g base.root ty o access.now) (Leads (stated.access_code g ty o access.now)
             (scopes.shifted base.root (stated.access_shift g ty access.now)) o (stated.access_type g ty access.now)
@@ -129,7 +135,13 @@ impl Names {
     }
 
     /// Adds the code of a path behind another.
-    fn along(&self, alloc: Global, base: Path, path: &[Access], steps: &mut Vec<Step>) -> Result<Path, Unmade>
+    fn along(
+        &self,
+        alloc: Global,
+        base: Path,
+        path: &[Access],
+        steps: &mut Vec<Step>,
+    ) -> Result<Path, Unmade>
         ensures { let g = scope_of self.now in let ty = type_at base.ty in let o = base.offset in
             base.peak < 2 ^ 32 → scopes.number_of base.root < 2 ^ 32 → Makes (stated.AlongFits g base.root ty o path.now) (Leads (meant.along_code g ty o path.now)
             (scopes.shifted base.root (meant.along_shift g ty path.now)) o (stated.along_type g ty path.now)

@@ -156,7 +156,15 @@ fn operating_at(
 {
     match t {
         Base::Complex16 => operating_pairs(operator, Whole::Sixteen, at, sides, seconds, d, steps),
-        Base::Complex32 => operating_pairs(operator, Whole::ThirtyTwo, at, sides, seconds, d, steps),
+        Base::Complex32 => operating_pairs(
+            operator,
+            Whole::ThirtyTwo,
+            at,
+            sides,
+            seconds,
+            d,
+            steps,
+        ),
         _ => operating_cells(operator, t, at, sides, d, steps),
     }
 }

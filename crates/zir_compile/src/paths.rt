@@ -85,7 +85,13 @@ fn is_in_place(still: bool, spot: Spot) -> bool
 }
 
 /// The path to a variable, which is copied where something further out may change it.
-fn holder_path(alloc: Global, still: bool, holder: &Holder, d: u32, steps: &mut Vec<Step>) -> Result<Path, Unmade>
+fn holder_path(
+    alloc: Global,
+    still: bool,
+    holder: &Holder,
+    d: u32,
+    steps: &mut Vec<Step>,
+) -> Result<Path, Unmade>
     ensures { Makes (d + coding.width_if still (Some holder.now) + 1 < 2 ^ 32)
         (coded.VariablePath still (Some holder.now) d steps.old.items steps.new.items) result }
 {
@@ -119,7 +125,11 @@ impl Names {
     }
 
     /// A variable, which stands without code where it is in scope.
-    pub(crate) fn standing_variable(&self, alloc: Global, id: u32) -> Result<Option<Standing>, AllocError>
+    pub(crate) fn standing_variable(
+        &self,
+        alloc: Global,
+        id: u32,
+    ) -> Result<Option<Standing>, AllocError>
         ensures { IfOk result (coded.IsVariable (scopes.variable (scope_of self.now) id)) }
     {
         match self.variable(id) {
@@ -160,7 +170,12 @@ impl Names {
 
     /// Where a part of an expression stands without code.
     #[cycle(standing)]
-    pub(crate) fn standing_part(&self, alloc: Global, a: &Expr, k: u32) -> Result<Option<Standing>, Unmade>
+    pub(crate) fn standing_part(
+        &self,
+        alloc: Global,
+        a: &Expr,
+        k: u32,
+    ) -> Result<Option<Standing>, Unmade>
         ensures { (name : Name) (at : Place) → coded.Finds (scope_of self.now) (Expr.Part a.now name k at) result }
     {
         match self.standing(alloc, a)? {
@@ -173,7 +188,12 @@ impl Names {
     }
 
     /// A value that stands without code is read there, or copied to the cells from d on.
-    pub(crate) fn read(&self, value: Standing, d: u32, steps: &mut Vec<Step>) -> Result<Placed, Unmade>
+    pub(crate) fn read(
+        &self,
+        value: Standing,
+        d: u32,
+        steps: &mut Vec<Step>,
+    ) -> Result<Placed, Unmade>
         ensures { let n = types.cells_for (scope_of self.now) (type_at value.ty) in
             Makes (peaks.behind d n < 2 ^ 32)
             (coded.Stands (coding.reading (Some value.at) n d []) (coding.read_at (Some value.at) d) (type_at value.ty) n
@@ -213,7 +233,12 @@ impl Names {
             (coded.Stands (Load (Spot.Local d) path.root (Spot.Local path.offset) n ∷ []) (Spot.Local d) ty n (max path.peak (d + n))
             steps.old.items steps.new.items) result }
     {
-        let Path { root, offset, ty, peak } = path;
+        let Path {
+            root,
+            offset,
+            ty,
+            peak,
+        } = path;
         let cells = self.structs.cells_at(&ty);
         let end = sum(d, cells)?;
         let to = Spot::Local(d);
@@ -227,7 +252,14 @@ impl Names {
     }
 
     /// The path to the variable of this number.
-    fn variable_path(&self, alloc: Global, still: bool, id: u32, d: u32, steps: &mut Vec<Step>) -> Result<Path, Unmade>
+    fn variable_path(
+        &self,
+        alloc: Global,
+        still: bool,
+        id: u32,
+        d: u32,
+        steps: &mut Vec<Step>,
+    ) -> Result<Path, Unmade>
         ensures { let found = scopes.variable (scope_of self.now) id in Makes (d + coding.width_if still found + 1 < 2 ^ 32)
             (coded.VariablePath still found d steps.old.items steps.new.items) result }
     {
@@ -257,7 +289,12 @@ impl Names {
         let behind_offset = base.offset + 1;
         let x = self.expression(alloc, i, behind_offset, steps)?;
         let n = base.ty.first_length();
-        let Path { root, offset, ty, peak } = base;
+        let Path {
+            root,
+            offset,
+            ty,
+            peak,
+        } = base;
         let element = ty.element();
         let elements = elements_of(range, n, self.structs.cells_at(&element), at)?;
         let to = Spot::Local(offset);
@@ -273,7 +310,14 @@ impl Names {
 
     /// Adds the code of a path; of what is none nothing is said.
     #[cycle(coding)]
-    fn path(&self, alloc: Global, still: bool, e: &Expr, d: u32, steps: &mut Vec<Step>) -> Result<Path, Unmade>
+    fn path(
+        &self,
+        alloc: Global,
+        still: bool,
+        e: &Expr,
+        d: u32,
+        steps: &mut Vec<Step>,
+    ) -> Result<Path, Unmade>
         ensures { coding.is_rooted e.now ≡ true → let g = scope_of self.now in
             Makes (coded.PathFits still g e.now d) (coded.Walked still g e.now d steps.old.items steps.new.items) result }
     {
@@ -306,15 +350,31 @@ impl Names {
 
     /// The path to a value that has code, which goes to the cells from d on.
     #[cycle(coding)]
-    fn value_path(&self, alloc: Global, a: &Expr, d: u32, steps: &mut Vec<Step>) -> Result<Path, Unmade>
+    fn value_path(
+        &self,
+        alloc: Global,
+        a: &Expr,
+        d: u32,
+        steps: &mut Vec<Step>,
+    ) -> Result<Path, Unmade>
         ensures { let g = scope_of self.now in let o = d + types.size_in g a.now in
             Makes (coded.ValueFits g a.now d) (coded.Leads (coding.code_of g a.now d ++ Number (Spot.Local o) (pos 0) ∷ [])
             (Spot.Local d) o (types.type_in g a.now) (max (peaks.peak_of g a.now d) (o + 1)) steps.old.items steps.new.items) result }
     {
-        let Placed { ty, cells, peak, .. } = self.expression(alloc, a, d, steps)?;
+        let Placed {
+            ty,
+            cells,
+            peak,
+            ..
+        } = self.expression(alloc, a, d, steps)?;
         let offset = sum(d, cells)?;
         let path = starting(Spot::Local(d), offset, ty, steps)?;
-        let Path { root, offset, ty, peak: end } = path;
+        let Path {
+            root,
+            offset,
+            ty,
+            peak: end,
+        } = path;
         Ok(Path {
             root,
             offset,
@@ -325,7 +385,14 @@ impl Names {
 
     /// Adds the code of what is indexed or has parts: a path, or a value that goes to the cells from d on.
     #[cycle(coding)]
-    pub(crate) fn base(&self, alloc: Global, still: bool, a: &Expr, d: u32, steps: &mut Vec<Step>) -> Result<Path, Unmade>
+    pub(crate) fn base(
+        &self,
+        alloc: Global,
+        still: bool,
+        a: &Expr,
+        d: u32,
+        steps: &mut Vec<Step>,
+    ) -> Result<Path, Unmade>
         ensures { let g = scope_of self.now in
             Makes (coded.BaseFits still g a.now d) (coded.Based still g a.now d steps.old.items steps.new.items) result }
     {
@@ -361,7 +428,14 @@ impl Names {
 
     /// Adds the code of a part of a struct or of a complex number.
     #[cycle(coding)]
-    pub(crate) fn part(&self, alloc: Global, a: &Expr, k: u32, d: u32, steps: &mut Vec<Step>) -> Result<Placed, Unmade>
+    pub(crate) fn part(
+        &self,
+        alloc: Global,
+        a: &Expr,
+        k: u32,
+        d: u32,
+        steps: &mut Vec<Step>,
+    ) -> Result<Placed, Unmade>
         ensures { (name : Name) (at : Place) → let g = scope_of self.now in let e = Expr.Part a.now name k at in
             Makes (coded.Fits g e d) (coded.Coded g e d steps.old.items steps.new.items) result }
     {
