@@ -56,7 +56,8 @@ pub record RowFits (g : Scope) (ss : List Stmt) (d : ℕ) : Type 0 where
   pub cells : all_peak g d ss < 2 ^ 32
   pub numbers : all_stmts_coded g d ss ≡ true
 
-pub record Rowed (g : Scope) (ss : List Stmt) (d : ℕ) (old new : List Step) (behind : Scope) (reach : Reach) : Type 0 where
+pub record Rowed (g : Scope) (ss : List Stmt) (d : ℕ) (old new : List Step) (behind : Scope)
+    (reach : Reach) : Type 0 where
   pub code : new ≡ old ++ all_code g d ss
   pub scope : behind ≡ scope_after_all g d ss
   pub free : reach.free ≡ free_after_all g d ss
@@ -128,7 +129,8 @@ pub record AlongFits (g : Scope) (root : Spot) (ty : Ty) (o : ℕ) (path : List 
 -- so many cells from a spot go to where indexes lead in a variable
 abbrev pub store_code : Scope → Holder → List Access → Spot → ℕ → ℕ → List Step
 store_code g v path x o n =
-    Number (Local o) (pos 0) ∷ (along_code g v.ty o path ++ Store (shifted v.spot (along_shift g v.ty path)) (Local o) x n ∷ [])
+    Number (Local o) (pos 0) ∷ (along_code g v.ty o path
+    ++ Store (shifted v.spot (along_shift g v.ty path)) (Local o) x n ∷ [])
 
 -- 32 bits hold all numbers of an assignment of so many cells from d on
 pub record StoreFits (g : Scope) (v : Option Holder) (path : List Access) (d n : ℕ) : Type 0 where
@@ -144,7 +146,8 @@ pub record RangeFits (g : Scope) (a n : Expr) (d : ℕ) : Type 0 where
 -- the first index of a loop stands in the cell d, and its number of turns in the one behind it
 pub record Ranged (g : Scope) (a n : Expr) (d : ℕ) (old new : List Step) (range : Range) : Type 0 where
   pub code :
-      new ≡ old ++ (code_of g a d ++ (settling (stands g a d) d 1 ++ (code_of g n (d + 1) ++ settling (stands g n (d + 1)) (d + 1) 1)))
+      new ≡ old ++ (code_of g a d ++ (settling (stands g a d) d 1 ++ (code_of g n (d + 1)
+      ++ settling (stands g n (d + 1)) (d + 1) 1)))
   pub next : range.next ≡ d + 1
   pub peak : range.peak ≡ max (peak_of g a d) (max (peak_of g n (d + 1)) (d + 2))
 

@@ -33,7 +33,8 @@ use zir_tree::types::Base;
 
 /// A number of one cell, of this type, goes to the cell d.
 fn number(alloc: Global, n: i64, t: Base, d: u32, steps: &mut Vec<Step>) -> Result<Placed, Unmade>
-    ensures { Makes (d + 1 < 2 ^ 32) (coded.Stands (Number (Spot.Local d) n ∷ []) (Spot.Local d) (offsets.plain_type t) 1 (d + 1)
+    ensures { Makes (d + 1 < 2 ^ 32)
+        (coded.Stands (Number (Spot.Local d) n ∷ []) (Spot.Local d) (offsets.plain_type t) 1 (d + 1)
         steps.old.items steps.new.items) result }
 {
     let peak = sum(d, 1)?;
@@ -56,7 +57,8 @@ fn whole_number(
     d: u32,
     steps: &mut Vec<Step>,
 ) -> Result<Placed, Unmade>
-    ensures { Makes ((d + 1 < 2 ^ 32) × (offsets.is_whole t ≡ true)) (coded.Stands (Number (Spot.Local d) n ∷ []) (Spot.Local d)
+    ensures { Makes ((d + 1 < 2 ^ 32) × (offsets.is_whole t ≡ true))
+        (coded.Stands (Number (Spot.Local d) n ∷ []) (Spot.Local d)
         (offsets.plain_type t) 1 (d + 1) steps.old.items steps.new.items) result }
 {
     if is_whole(t) {
@@ -120,7 +122,8 @@ impl Names {
         })
     }
 
-    /// The answer of an operator whose left side has a type goes to the cells from d on, behind which there is a peak already.
+    /// The answer of an operator whose left side has a type goes to the cells from d on, behind which there is a peak
+    /// already.
     fn operator_answer(
         &self,
         alloc: Global,
@@ -258,10 +261,9 @@ impl Names {
         d: u32,
         steps: &mut Vec<Step>,
     ) -> Result<u32, Unmade>
-        ensures { let g = scope_of self.now in let y = coding.stands g b.now free in
-            Makes (coded.SidesFit g b.now free left d) (λ peak. (peak ≡ peaks.peak_of g b.now free) ×
-            ((before first : List OneStep) → steps.old.items ≡ before ++ first → steps.new.items ≡ before ++
-            coding.operator_code operator.0 operator.1 operator.2 left y d first (coding.code_of g b.now free))) result }
+        ensures { let g = scope_of self.now in
+            Makes (coded.SidesFit g b.now free left d)
+            (coded.Operated operator.0 operator.1 operator.2 left g b.now free d steps.old.items steps.new.items) result }
     {
         match deciding(operator.0) {
             None => self.operated(alloc, b, operator, left, free, d, steps),
@@ -381,7 +383,8 @@ impl Names {
         peak: u32,
         steps: &mut Vec<Step>,
     ) -> Result<Placed, Unmade>
-        ensures { let g = scope_of self.now in let found = g.funs k in let ty = types.result_type found in let n = types.cells_for g ty in
+        ensures { let g = scope_of self.now in let found = g.funs k in let ty = types.result_type found in
+            let n = types.cells_for g ty in
             let end = d + max n (peaks.needs_of found) in
             Makes (end < 2 ^ 32) (coded.Stands (coding.call_code found d) (Spot.Local d) ty n (max peak end)
             steps.old.items steps.new.items) result }

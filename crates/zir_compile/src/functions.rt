@@ -94,8 +94,8 @@ fn signed(
 }
 
 impl Names {
-    /// Adds the code of the value of a body, which goes to the body's first cells, and answers the first cell behind all that
-    /// it uses.
+    /// Adds the code of the value of a body, which goes to the body's first cells, and answers the first cell behind
+    /// all that it uses.
     fn returned(
         &self,
         alloc: Global,
@@ -160,8 +160,8 @@ impl Names {
         }
     }
 
-    /// These structs, these top variables, and the signatures of these functions, each over those before it. A function has none
-    /// where 32 bits do not hold the numbers of its code.
+    /// These structs, these top variables, and the signatures of these functions, each over those before it. A function
+    /// has none where 32 bits do not hold the numbers of its code.
     pub fn of_functions(
         alloc: Global,
         structs: &[StructDef],
@@ -169,7 +169,8 @@ impl Names {
         functions: &[Function],
     ) -> Result<Names, AllocError>
         ensures { IfOk result (λ names. scope_of names ≡
-            at_top structs.now tops (more_signatures signing.no_signature 0 (signing.signatures_of structs.now tops functions.now))) }
+            at_top structs.now tops (more_signatures signing.no_signature 0
+            (signing.signatures_of structs.now tops functions.now))) }
     {
         let structs = Structs::of(alloc, structs)?;
         let mut names = Names {

@@ -29,7 +29,8 @@ use zir_tree::types::Base;
 
 /// Where an index is looked for: among all elements, or among the first elements of slices of so many.
 fn elements_of(range: Option<u64>, n: u64, size: u64, at: Place) -> Result<Elements, Unmade>
-    ensures { Makes ((n + 1 < 2 ^ 32) × (size < 2 ^ 32)) (λ elements. elements ≡ coded.elements_in range n size at) result }
+    ensures { Makes ((n + 1 < 2 ^ 32) × (size < 2 ^ 32))
+        (λ elements. elements ≡ coded.elements_in range n size at) result }
 {
     let most = sum(1, n)?;
     let size = sum(0, size)?;
@@ -61,7 +62,8 @@ fn part_of_array(range: Option<u64>, element: Extent) -> Result<Extent, AllocErr
 
 /// The offset 0 of a value of this type, whose first cell is a root, goes into a cell.
 pub fn starting(root: Spot, offset: u32, ty: Extent, steps: &mut Vec<Step>) -> Result<Path, Unmade>
-    ensures { Makes (offset + 1 < 2 ^ 32) (coded.Leads (Number (Spot.Local offset) (pos 0) ∷ []) root offset (type_at ty) (offset + 1)
+    ensures { Makes (offset + 1 < 2 ^ 32)
+        (coded.Leads (Number (Spot.Local offset) (pos 0) ∷ []) root offset (type_at ty) (offset + 1)
         steps.old.items steps.new.items) result }
 {
     let peak = sum(offset, 1)?;
@@ -196,8 +198,8 @@ impl Names {
     ) -> Result<Placed, Unmade>
         ensures { let n = types.cells_for (scope_of self.now) (type_at value.ty) in
             Makes (peaks.behind d n < 2 ^ 32)
-            (coded.Stands (coding.reading (Some value.at) n d []) (coding.read_at (Some value.at) d) (type_at value.ty) n
-            (peaks.behind d n) steps.old.items steps.new.items) result }
+            (coded.Stands (coding.reading (Some value.at) n d []) (coding.read_at (Some value.at) d) (type_at value.ty)
+            n (peaks.behind d n) steps.old.items steps.new.items) result }
     {
         let Standing { at, ty } = value;
         let cells = self.structs.cells_at(&ty);
@@ -213,9 +215,11 @@ impl Names {
 
     /// A part of what a path leads to.
     pub(crate) fn parted(&self, alloc: Global, path: Path, k: u32) -> Result<Path, Unmade>
-        ensures { let g = scope_of self.now in let ty = type_at path.ty in let offset = types.part_offset g.structs ty k in
+        ensures { let g = scope_of self.now in let ty = type_at path.ty in
+            let offset = types.part_offset g.structs ty k in
             Makes (scopes.number_of path.root + offset < 2 ^ 32)
-            (coded.Leads [] (scopes.shifted path.root offset) path.offset (types.part_type g.structs ty k) path.peak [] []) result }
+            (coded.Leads [] (scopes.shifted path.root offset) path.offset (types.part_type g.structs ty k) path.peak [] [])
+            result }
     {
         let part = self.part_of(alloc, path.root, &path.ty, k)?;
         Ok(Path {
@@ -230,8 +234,8 @@ impl Names {
     fn loaded(&self, path: Path, d: u32, steps: &mut Vec<Step>) -> Result<Placed, Unmade>
         ensures { let ty = type_at path.ty in let n = types.cells_for (scope_of self.now) ty in
             Makes (d + n < 2 ^ 32)
-            (coded.Stands (Load (Spot.Local d) path.root (Spot.Local path.offset) n ∷ []) (Spot.Local d) ty n (max path.peak (d + n))
-            steps.old.items steps.new.items) result }
+            (coded.Stands (Load (Spot.Local d) path.root (Spot.Local path.offset) n ∷ []) (Spot.Local d) ty n
+            (max path.peak (d + n)) steps.old.items steps.new.items) result }
     {
         let Path {
             root,
@@ -260,7 +264,8 @@ impl Names {
         d: u32,
         steps: &mut Vec<Step>,
     ) -> Result<Path, Unmade>
-        ensures { let found = scopes.variable (scope_of self.now) id in Makes (d + coding.width_if still found + 1 < 2 ^ 32)
+        ensures { let found = scopes.variable (scope_of self.now) id in
+            Makes (d + coding.width_if still found + 1 < 2 ^ 32)
             (coded.VariablePath still found d steps.old.items steps.new.items) result }
     {
         match self.variable(id) {
@@ -282,7 +287,8 @@ impl Names {
     ) -> Result<Path, Unmade>
         ensures { let g = scope_of self.now in let o = base.offset in let ty = type_at base.ty in
             Makes (coded.IndexFits g i.now o ty) (coded.Leads
-            (coding.code_of g i.now (o + 1) ++ coded.to_part g ty range o (coding.stands g i.now (o + 1)) at ∷ []) base.root o
+            (coding.code_of g i.now (o + 1)
+            ++ coded.to_part g ty range o (coding.stands g i.now (o + 1)) at ∷ []) base.root o
             (coded.type_of_part range (types.element_type ty)) (max base.peak (peaks.peak_of g i.now (o + 1)))
             steps.old.items steps.new.items) result }
     {
@@ -319,7 +325,8 @@ impl Names {
         steps: &mut Vec<Step>,
     ) -> Result<Path, Unmade>
         ensures { coding.is_rooted e.now ≡ true → let g = scope_of self.now in
-            Makes (coded.PathFits still g e.now d) (coded.Walked still g e.now d steps.old.items steps.new.items) result }
+            Makes (coded.PathFits still g e.now d)
+            (coded.Walked still g e.now d steps.old.items steps.new.items) result }
     {
         match e {
             Expr::Variable(x) => self.variable_path(alloc, still, x.id, d, steps),
@@ -358,8 +365,10 @@ impl Names {
         steps: &mut Vec<Step>,
     ) -> Result<Path, Unmade>
         ensures { let g = scope_of self.now in let o = d + types.size_in g a.now in
-            Makes (coded.ValueFits g a.now d) (coded.Leads (coding.code_of g a.now d ++ Number (Spot.Local o) (pos 0) ∷ [])
-            (Spot.Local d) o (types.type_in g a.now) (max (peaks.peak_of g a.now d) (o + 1)) steps.old.items steps.new.items) result }
+            Makes (coded.ValueFits g a.now d)
+            (coded.Leads (coding.code_of g a.now d ++ Number (Spot.Local o) (pos 0) ∷ [])
+            (Spot.Local d) o (types.type_in g a.now) (max (peaks.peak_of g a.now d) (o + 1))
+            steps.old.items steps.new.items) result }
     {
         let Placed {
             ty,
@@ -394,7 +403,8 @@ impl Names {
         steps: &mut Vec<Step>,
     ) -> Result<Path, Unmade>
         ensures { let g = scope_of self.now in
-            Makes (coded.BaseFits still g a.now d) (coded.Based still g a.now d steps.old.items steps.new.items) result }
+            Makes (coded.BaseFits still g a.now d)
+            (coded.Based still g a.now d steps.old.items steps.new.items) result }
     {
         if is_rooted(a) {
             self.path(alloc, still, a, d, steps)

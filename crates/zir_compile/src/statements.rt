@@ -67,8 +67,8 @@ fn failing(at: Place, d: u32, steps: &mut Vec<Step>) -> Result<Reach, AllocError
 }
 
 impl Names {
-    /// The code of statements, whose cells from d on are free. What they declare comes into scope. There is no code, and nothing
-    /// comes into scope, where 32 bits do not hold its numbers.
+    /// The code of statements, whose cells from d on are free. What they declare comes into scope. There is no code,
+    /// and nothing comes into scope, where 32 bits do not hold its numbers.
     pub fn statements(
         &mut self,
         alloc: Global,
@@ -104,7 +104,8 @@ impl Names {
     ) -> Result<Reach, Unmade>
         ensures moved { stated.Moved self.old self.new }
         ensures code { let g = scope_of self.old in let a = Stmt.Var v.now in
-            Makes (stated.StmtFits g a d) (stated.Stated g a d steps.old.items steps.new.items (scope_of self.new)) result }
+            Makes (stated.StmtFits g a d)
+            (stated.Stated g a d steps.old.items steps.new.items (scope_of self.new)) result }
     {
         let ty = type_of(alloc, &v.ty)?;
         let free = sum(d, self.structs.cells(&ty))?;
@@ -152,7 +153,8 @@ impl Names {
         steps: &mut Vec<Step>,
     ) -> Result<Range, Unmade>
         ensures { let g = scope_of self.now in
-            Makes (stated.RangeFits g from.now n.now d) (stated.Ranged g from.now n.now d steps.old.items steps.new.items) result }
+            Makes (stated.RangeFits g from.now n.now d)
+            (stated.Ranged g from.now n.now d steps.old.items steps.new.items) result }
     {
         let first = self.expression(alloc, from, d, steps)?;
         let next = sum(d, 1)?;
@@ -205,7 +207,8 @@ impl Names {
         steps: &mut Vec<Step>,
     ) -> Result<Reach, Unmade>
         ensures same { stated.Same self.old self.new }
-        ensures code { (e : OneExpr) (a : List OneStmt) (at : Place) (before : List OneStep) → let g = scope_of self.old in
+        ensures code { (e : OneExpr) (a : List OneStmt) (at : Place) (before : List OneStep) →
+            let g = scope_of self.old in
             Fits g e d → Coded g e d before steps.old.items test → stated.RowFits g a d → stated.Blocked g a d first →
             let s = Stmt.IfElse e a b.now at in
             Makes (stated.StmtFits g s d) (stated.Stated g s d before steps.new.items g) result }
@@ -283,7 +286,8 @@ impl Names {
         steps: &mut Vec<Step>,
     ) -> Result<Reach, Unmade>
         ensures same { stated.Same self.old self.new }
-        ensures code { (name : OneIdent) (a n : OneExpr) (at : Place) (before : List OneStep) → let g = scope_of self.old in
+        ensures code { (name : OneIdent) (a n : OneExpr) (at : Place) (before : List OneStep) →
+            let g = scope_of self.old in
             name.id ≡ id → stated.RangeFits g a n d → stated.Ranged g a n d before steps.old.items range →
             let s = Stmt.For name a n b.now at in
             Makes (stated.StmtFits g s d) (stated.Stated g s d before steps.new.items g) result }
@@ -311,7 +315,8 @@ impl Names {
     ) -> Result<Reach, Unmade>
         ensures moved { stated.Moved self.old self.new }
         ensures code { let g = scope_of self.old in
-            Makes (stated.StmtFits g a.now d) (stated.Stated g a.now d steps.old.items steps.new.items (scope_of self.new)) result }
+            Makes (stated.StmtFits g a.now d)
+            (stated.Stated g a.now d steps.old.items steps.new.items (scope_of self.new)) result }
     {
         match a {
             Stmt::Var(v) => self.declared(alloc, v, d, steps),
