@@ -10,9 +10,7 @@ pub mod Literals
 pub mod Making
 pub mod Parts
 pub mod Rows
+pub mod Signed
 pub mod Sizes
 pub mod Storing
-pub mod Placing
-pub mod Settled
-pub mod Signed
 pub mod Typed

@@ -6,5 +6,4 @@ pub mod Sides
 pub mod Coded
 pub mod Made
 pub mod Stated
-pub mod Bodied
 pub mod Signing

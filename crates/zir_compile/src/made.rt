@@ -4,6 +4,7 @@ ghost use Rattle.std.specs.Prelude.{◌<◌};
 
 use crate::extent::Extent;
 use sqlite_items::Items;
+use zir_code::scope::Holder;
 use zir_expr::frame::Spot;
 use zir_expr::steps::Step;
 
@@ -37,15 +38,23 @@ pub struct Block {
     pub peak: u32,
 }
 
-/// The cell of the number of turns of a loop, behind that of its index, and the first cell behind all that the code of both uses.
+/// The variables of parameters, and the first free cell behind them.
+#[derive(Drop)]
+pub struct Parameters {
+    pub holders: Vec<Holder>,
+    pub free: u32,
+}
+
+/// The cell of the number of turns of a loop, behind that of its index, and the first cell behind all that the code of
+/// both uses.
 #[derive(Clone, Copy)]
 pub struct Range {
     pub next: u32,
     pub peak: u32,
 }
 
-/// Where the value of an expression stands after its code, its type, its cells, of which a number above 2^64 - 1 counts as that,
-/// and the first cell behind all that the code uses.
+/// Where the value of an expression stands after its code, its type, its cells, of which a number above 2^64 - 1 counts
+/// as that, and the first cell behind all that the code uses.
 #[derive(Drop)]
 pub struct Placed {
     pub at: Spot,
@@ -68,8 +77,8 @@ pub struct Standing {
     pub ty: Extent,
 }
 
-/// A place that indexes lead to: the spot that its offset counts from, the cell that holds the offset, the type of what stands
-/// there, and the first cell behind all that the code uses.
+/// A place that indexes lead to: the spot that its offset counts from, the cell that holds the offset, the type of what
+/// stands there, and the first cell behind all that the code uses.
 #[derive(Drop)]
 pub struct Path {
     pub root: Spot,

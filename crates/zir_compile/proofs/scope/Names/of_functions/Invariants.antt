@@ -8,4 +8,4 @@ abbrev pub invariant-loop-f : goal.invariant-loop-f
 invariant-loop-f l =
     (l.names.structs ≡ l.fn.structs) × (l.names.tops ≡ l.fn.tops) × (length l.names.functions.items ≡ l.f-index) ×
     (signatures_of l.fn.structs l.fn.tops l.functions ≡
-        l.names.functions.items ++ signatures_after l.fn.structs l.fn.tops (signature_at l.names.functions.items) l.f-index (drop l.f-index l.functions))
+    l.names.functions.items ++ signatures_after l.fn.structs l.fn.tops (signature_at l.names.functions.items) l.f-index (drop l.f-index l.functions))
