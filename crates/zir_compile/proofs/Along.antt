@@ -1,5 +1,5 @@
 -- Paths into a variable, access by access.
-use Rattle.std.specs.Prelude.{ℕ, ◌+◌, ◌<◌, ◌≤◌, ◌^◌, max, List, [], ◌∷◌, ◌++◌, length, drop, Bool, true, false, ◌&&◌, ◌≡◌, refl}
+use Rattle.std.specs.Prelude.{ℕ, ◌+◌, ◌<◌, ◌≤◌, ◌^◌, max, List, [], ◌∷◌, ◌++◌, length, drop, true, false, ◌&&◌, ◌≡◌, refl}
 use Rattle.std.proofs.Common.{ap, sym, ◌∙◌, subst, append_assoc, append-nil, arith, get_or}
 use Rattle.std.proofs.lemmas.List.{drop_all}
 use Rattle.zir_tree.specs.declared.types.Ty.{Ty}
@@ -18,7 +18,7 @@ use Rattle.zir_compile.specs.Coded.{Leads}
 use Rattle.zir_compile.specs.Extents.{type_at}
 use Rattle.zir_compile.specs.Stated.{is_index, access_code, access_shift, access_type, access_peak, AccessFits, along_type, AlongFits}
 use Rattle.zir_compile.proofs.Finding.{at_place}
-use Rattle.zir_compile.proofs.Making.{behind_code, and_first, and_second, both_true}
+use Rattle.zir_compile.proofs.Making.{and_first, and_second}
 
 -- an index is the first, or among the others
 pub index_here : (path : List Access) (n : ℕ) (a : Access) → n < length path → a ≡ get_or path n a → is_index a ≡ true → has_index path ≡ has_index (drop n path) → has_index path ≡ true
@@ -155,13 +155,13 @@ along_on g base path old n a here next steps mid lt is i f' l' =
       ty = i.ty ∙ ap (along_type g t) place ∙ ap (λ u. along_type g u rest) (sym l.ty);
       small =
           λ p q.
-              let before = i.small p q in
-              let after = access_small g here.root t o a f before.1 in
-              let to : number_of next.root ≡ number_of here.root + access_shift g t a = ap number_of l.root ∙ number_twice here.root (access_shift g t a) in
-              let first = before.0 in
-              let second = after.0 in
-              let third = after.1 in
-              (omega arith, omega arith);
+          let before = i.small p q in
+          let after = access_small g here.root t o a f before.1 in
+          let to : number_of next.root ≡ number_of here.root + access_shift g t a = ap number_of l.root ∙ number_twice here.root (access_shift g t a) in
+          let first = before.0 in
+          let second = after.0 in
+          let third = after.1 in
+          (omega arith, omega arith);
     }
 
 -- no access more

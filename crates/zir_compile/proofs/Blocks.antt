@@ -1,21 +1,18 @@
 -- Choices and loops.
-use Rattle.std.specs.Prelude.{ℕ, ◌+◌, ◌<◌, ◌≤◌, ◌^◌, max, List, [], ◌∷◌, ◌++◌, Bool, true, ◌&&◌, Result, ◌≡◌, refl}
-use Rattle.std.proofs.Common.{ap, sym, ◌∙◌, subst, append_assoc, arith, IsErrAnd}
-use denote.Hole.Carrier.{hidden}
+use Rattle.std.specs.Prelude.{ℕ, ◌+◌, ◌<◌, ◌^◌, max, List, [], ◌∷◌, ◌++◌, true, ◌&&◌, Result, ◌≡◌, refl}
+use Rattle.std.proofs.Common.{ap, sym, ◌∙◌, subst, append_assoc, arith}
 use Rattle.zir_tree.specs.declared.ident.Ident.{Ident}
 use Rattle.zir_tree.specs.declared.place.Place.{Place}
 use Rattle.zir_tree.specs.declared.expr.Expr.{Expr}
 use Rattle.zir_tree.specs.declared.stmt.Stmt.{Stmt, If, IfElse, While, For}
-use Rattle.zir_tree.specs.declared.stmt.Stmt.TheBlock.{shape-the_row-Stmt-0, hidden-the_row-Stmt-0}
-use Rattle.zir_expr.specs.declared.frame.Spot.{Spot}
+use Rattle.zir_tree.specs.declared.stmt.Stmt.TheBlock.{hidden-the_row-Stmt-0}
 use Rattle.zir_expr.specs.declared.frame.Spot.TheVariants.{Local}
 use Rattle.zir_expr.specs.declared.steps.Step.{Step, Branch, While as WhileStep, Count}
 use Rattle.zir_code.specs.Scopes.{Scope}
 use Rattle.zir_code.specs.Coding.{stands, code_of, settling}
 use Rattle.zir_code.specs.Peaks.{peak_of, is_coded}
 use Rattle.zir_code.specs.Statements.{with_index, row_code}
-use Rattle.zir_code.specs.Needs.{stmt_peak, row_peak, all_peak, row_coded}
-use Rattle.zir_code.specs.Bodies.{all_code}
+use Rattle.zir_code.specs.Needs.{row_peak, row_coded}
 use Rattle.zir_compile.specs.declared.numbers.Unmade.{Unmade}
 use Rattle.zir_compile.specs.declared.made.Placed.{Placed}
 use Rattle.zir_compile.specs.declared.made.Reach.{Reach}

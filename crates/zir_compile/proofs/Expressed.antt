@@ -1,11 +1,10 @@
 -- What is made of the parts of an expression.
-use Rattle.std.specs.Prelude.{ℕ, ℤ, pos, ◌+◌, ◌<◌, ◌≤◌, ◌^◌, max, List, [], ◌∷◌, ◌++◌, Bool, true, false, ◌&&◌, Option, Some, None, Result, ◌≡◌, refl}
-use Rattle.std.proofs.Common.{ap, sym, ◌∙◌, subst, arith, append-nil, append_assoc, IsErrAnd}
+use Rattle.std.specs.Prelude.{ℕ, ℤ, ◌+◌, ◌<◌, ◌^◌, max, List, [], ◌∷◌, ◌++◌, true, ◌&&◌, Result, ◌≡◌, refl}
+use Rattle.std.proofs.Common.{ap, sym, ◌∙◌, subst, arith, IsErrAnd}
 use denote.Hole.Carrier.{hidden}
 use Rattle.zir_tree.specs.declared.place.Place.{Place}
 use Rattle.zir_tree.specs.declared.types.Base.{Base}
 use Rattle.zir_tree.specs.declared.types.Base.TheVariants.{Unit as UnitTy, Bit as BitTy, Bool as BoolTy, Int8, Int16, Int32, Int64, Complex16, Complex32, Struct as StructTy}
-use Rattle.zir_tree.specs.declared.types.Ty.{Ty}
 use Rattle.zir_tree.specs.declared.expr.Prefix.{Prefix}
 use Rattle.zir_tree.specs.declared.expr.Operator.{Operator}
 use Rattle.zir_tree.specs.declared.expr.Expr.{Expr, Int, Unary, Binary, Convert, Complex}
@@ -25,7 +24,6 @@ use Rattle.zir_compile.specs.declared.made.Placed.{Placed}
 use Rattle.zir_compile.specs.Coded.{Fits, Stands, Coded, SidesFit}
 use Rattle.zir_compile.specs.Extents.{type_at}
 use Rattle.zir_compile.specs.Makes.{Refuses, Makes}
-use Rattle.zir_compile.specs.Sides.{counts_seconds}
 use Rattle.zir_compile.proofs.Making.{makes_err, makes_as, behind_code, and_first, and_second, both_true}
 
 -- a whole number
@@ -44,17 +42,17 @@ ok-Int g n t p d m old new r e h =
         peak = s.peak;
       },
     )) where
-  one_cell : (g : Scope) (t : Base) → is_whole t ≡ true → cells_for g (plain t) ≡ 1
-  one_cell g UnitTy h = cc
-  one_cell g BitTy h = cc
-  one_cell g BoolTy h = cc
-  one_cell g Int8 h = refl
-  one_cell g Int16 h = refl
-  one_cell g Int32 h = refl
-  one_cell g Int64 h = refl
-  one_cell g Complex16 h = cc
-  one_cell g Complex32 h = cc
-  one_cell g (StructTy k) h = cc
+      one_cell : (g : Scope) (t : Base) → is_whole t ≡ true → cells_for g (plain t) ≡ 1
+      one_cell g UnitTy h = cc
+      one_cell g BitTy h = cc
+      one_cell g BoolTy h = cc
+      one_cell g Int8 h = refl
+      one_cell g Int16 h = refl
+      one_cell g Int32 h = refl
+      one_cell g Int64 h = refl
+      one_cell g Complex16 h = cc
+      one_cell g Complex32 h = cc
+      one_cell g (StructTy k) h = cc
 
 -- a step behind the code of an expression
 one_more : (g : Scope) (a : Expr) (d : ℕ) (old mid new : List Step) (x : Placed) (step : Spot → Step) → Coded g a d old mid x → new ≡ mid ++ step x.at ∷ [] →

@@ -1,16 +1,15 @@
 -- Values that stand without code.
-use Rattle.std.specs.Prelude.{ℕ, ◌+◌, ◌<◌, ◌^◌, List, Bool, true, false, ◌&&◌, Option, Some, None, Result, Ok, Err, ◌≡◌, refl}
-use Rattle.std.proofs.Common.{ap, sym, ◌∙◌, subst, arith, IsErrAnd}
+use Rattle.std.specs.Prelude.{ℕ, ◌+◌, ◌<◌, ◌^◌, List, Bool, true, false, ◌&&◌, Option, Some, None, Result, ◌≡◌, refl}
+use Rattle.std.proofs.Common.{ap, sym, ◌∙◌, subst, IsErrAnd}
 use Rattle.std.proofs.lemmas.Result.{err_from_is_err_and}
 use denote.Hole.Carrier.{hidden}
 use Rattle.zir_tree.specs.declared.place.Place.{Place}
 use Rattle.zir_tree.specs.declared.expr.Expr.{Expr, Part}
 use Rattle.zir_tree.specs.declared.expr.Expr.TheBlock.{shape-the_row-Expr-0, hidden-the_row-Expr-0}
 use Rattle.zir_expr.specs.declared.frame.Spot.{Spot}
-use Rattle.zir_expr.specs.declared.frame.Spot.TheVariants.{Top, Local}
 use Rattle.zir_code.specs.Scopes.{Scope, shifted, number_of}
 use Rattle.zir_code.specs.Types.{type_in, part_type, part_offset}
-use Rattle.zir_code.specs.Coding.{is_rooted, fixed, shift_if, path_root}
+use Rattle.zir_code.specs.Coding.{fixed, shift_if, path_root}
 use Rattle.zir_code.specs.Peaks.{is_path_coded, small}
 use Rattle.zir_compile.specs.declared.numbers.Unmade.{Unmade}
 use Rattle.zir_compile.specs.declared.numbers.Unmade.TheVariants.{Memory, Large}

@@ -1,6 +1,6 @@
 -- Paths of indexes and parts.
-use Rattle.std.specs.Prelude.{ℕ, ◌+◌, ◌<◌, ◌^◌, max, List, [], ◌∷◌, ◌++◌, Bool, true, ◌&&◌, Option, Some, None, Result, ◌≡◌, refl}
-use Rattle.std.proofs.Common.{ap, sym, ◌∙◌, subst, arith, append-nil, IsErrAnd}
+use Rattle.std.specs.Prelude.{ℕ, ◌+◌, ◌<◌, ◌^◌, max, List, [], ◌∷◌, ◌++◌, Bool, true, ◌&&◌, Option, Some, None, Result, ◌≡◌}
+use Rattle.std.proofs.Common.{sym, ◌∙◌, subst, arith, IsErrAnd}
 use denote.Hole.Carrier.{hidden}
 use Rattle.zir_tree.specs.declared.place.Place.{Place}
 use Rattle.zir_tree.specs.declared.types.Ty.{Ty}
@@ -10,7 +10,7 @@ use Rattle.zir_expr.specs.declared.frame.Spot.{Spot}
 use Rattle.zir_expr.specs.declared.steps.Step.{Step}
 use Rattle.zir_code.specs.Scopes.{Scope, shifted, number_of}
 use Rattle.zir_code.specs.Types.{type_in, element_type, part_type, part_offset}
-use Rattle.zir_code.specs.Coding.{stands, code_of, is_rooted, is_calm, path_code, path_width, path_root}
+use Rattle.zir_code.specs.Coding.{stands, code_of, is_rooted, is_calm, path_width, path_root}
 use Rattle.zir_code.specs.Peaks.{peak_of, path_peak, is_coded, is_path_coded, counts_elements, small}
 use Rattle.zir_compile.specs.declared.numbers.Unmade.{Unmade}
 use Rattle.zir_compile.specs.declared.made.Path.{Path}

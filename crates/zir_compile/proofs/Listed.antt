@@ -1,6 +1,6 @@
 -- Arguments one behind the other.
-use Rattle.std.specs.Prelude.{ℕ, suc, ◌+◌, ◌<◌, ◌≤◌, ◌^◌, max, List, [], ◌∷◌, ◌++◌, length, drop, Bool, true, ◌&&◌, Option, Some, None, ◌≡◌, refl}
-use Rattle.std.proofs.Common.{ap, sym, ◌∙◌, subst, append_assoc, append-nil, arith, get_or}
+use Rattle.std.specs.Prelude.{ℕ, suc, ◌+◌, ◌<◌, ◌≤◌, ◌^◌, max, List, [], ◌∷◌, ◌++◌, length, drop, true, ◌&&◌, Option, None, ◌≡◌, refl}
+use Rattle.std.proofs.Common.{ap, sym, ◌∙◌, append_assoc, append-nil, arith, get_or}
 use Rattle.std.proofs.lemmas.List.{drop_all}
 use denote.Hole.Carrier.{hidden}
 use Rattle.zir_tree.specs.declared.expr.Expr.{Expr}
@@ -8,7 +8,7 @@ use Rattle.zir_tree.specs.declared.expr.Expr.TheBlock.{shape-the_row-Expr-1, hid
 use Rattle.zir_cells.specs.Layout.{capped}
 use Rattle.zir_expr.specs.declared.steps.Step.{Step}
 use Rattle.zir_code.specs.Scopes.{Scope}
-use Rattle.zir_code.specs.Types.{type_in, first_type, count_of, size_in}
+use Rattle.zir_code.specs.Types.{first_type, count_of, size_in}
 use Rattle.zir_code.specs.Coding.{stands, code_of, settling, arguments_code, code_of_all}
 use Rattle.zir_code.specs.Peaks.{peak_of, arguments_peak, peak_of_all, is_coded, are_coded, all_coded}
 use Rattle.zir_compile.specs.declared.extent.Extent.{Extent}
@@ -16,7 +16,7 @@ use Rattle.zir_compile.specs.declared.made.Placed.{Placed}
 use Rattle.zir_compile.specs.Coded.{Fits, Coded, AllFit, Arranged, first_from}
 use Rattle.zir_compile.specs.Extents.{type_at}
 use Rattle.zir_compile.proofs.Finding.{at_place}
-use Rattle.zir_compile.proofs.Making.{behind_code, and_first, and_second, both_true}
+use Rattle.zir_compile.proofs.Making.{and_first, and_second}
 
 -- rows of arguments as lists
 pub code-list : (g : Scope) (d : ℕ) (es : List Expr) → arguments_code g (hidden-the_row-Expr-1 es) d ≡ code_of_all g es d

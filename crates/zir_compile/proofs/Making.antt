@@ -1,5 +1,5 @@
 -- What is made of what has been made.
-use Rattle.std.specs.Prelude.{ℕ, ◌<◌, ◌≤◌, ◌^◌, List, [], ◌∷◌, ◌++◌, Bool, true, false, ◌&&◌, Result, Ok, Err, nat_lt, ◌≡◌, refl}
+use Rattle.std.specs.Prelude.{ℕ, ◌<◌, ◌^◌, List, ◌++◌, Bool, true, false, ◌&&◌, Result, Ok, Err, ◌≡◌, refl}
 use Rattle.std.proofs.Common.{ap, sym, ◌∙◌, subst, append_assoc, arith, IsErrAnd}
 use Rattle.std.proofs.lemmas.Bool.Decides.{nat_tests}
 use Rattle.std.proofs.lemmas.Result.{err_from_is_err_and}

@@ -1,6 +1,6 @@
 -- Elements, slices, parts, calls and arrays.
-use Rattle.std.specs.Prelude.{ℕ, ◌+◌, ◌<◌, ◌≤◌, ◌^◌, max, List, [], ◌∷◌, ◌++◌, length, Bool, true, false, ◌&&◌, Option, Some, None, Result, ◌≡◌, refl}
-use Rattle.std.proofs.Common.{ap, sym, ◌∙◌, subst, arith, append-nil, append_assoc, IsErrAnd}
+use Rattle.std.specs.Prelude.{ℕ, ◌+◌, ◌<◌, ◌^◌, max, List, [], ◌∷◌, ◌++◌, length, Bool, true, ◌&&◌, Option, Some, None, Result, ◌≡◌, refl}
+use Rattle.std.proofs.Common.{ap, sym, ◌∙◌, subst, arith, IsErrAnd}
 use denote.Hole.Carrier.{hidden}
 use Rattle.zir_tree.specs.declared.ident.Ident.{Ident}
 use Rattle.zir_tree.specs.declared.place.Place.{Place}
@@ -15,21 +15,20 @@ use Rattle.zir_expr.specs.declared.frame.Spot.{Spot}
 use Rattle.zir_expr.specs.declared.frame.Spot.TheVariants.{Top, Local}
 use Rattle.zir_expr.specs.declared.steps.Step.{Step, Load}
 use Rattle.zir_code.specs.Scopes.{Scope, shifted, number_of}
-use Rattle.zir_code.specs.Types.{type_in, first_type, count_of, callee_type, element_type, part_type, part_offset, cells_for}
-use Rattle.zir_code.specs.Coding.{stands, code_of, is_rooted, is_calm, fixed, shift_if, reading, read_at, based, base_width, base_root, path_code, path_root, callee_code, code_of_all}
-use Rattle.zir_code.specs.Peaks.{peak_of, path_peak, peak_of_all, behind, peak_if, callee_needs, is_coded, is_path_coded, all_coded, counts_elements, counts_spot, small}
+use Rattle.zir_code.specs.Types.{type_in, first_type, callee_type, element_type, part_type, part_offset, cells_for}
+use Rattle.zir_code.specs.Coding.{stands, code_of, is_rooted, is_calm, fixed, shift_if, reading, read_at, based, base_width, base_root, path_code, path_root, callee_code}
+use Rattle.zir_code.specs.Peaks.{peak_of, peak_of_all, behind, peak_if, callee_needs, is_coded, is_path_coded, counts_elements, counts_spot, small}
 use Rattle.zir_compile.specs.declared.numbers.Unmade.{Unmade}
 use Rattle.zir_compile.specs.declared.numbers.Unmade.TheVariants.{Memory, Large}
 use Rattle.zir_compile.specs.declared.made.Placed.{Placed}
 use Rattle.zir_compile.specs.declared.made.Path.{Path}
 use Rattle.zir_compile.specs.declared.made.Standing.{Standing}
 use Rattle.zir_compile.specs.declared.made.Arguments.{Arguments}
-use Rattle.zir_compile.specs.Coded.{Fits, Stands, Coded, Leads, BaseFits, Based, base_peak, IndexFits, to_part, type_of_part, IsFixed, IsBeyond, AllFit, Arranged, first_from}
+use Rattle.zir_compile.specs.Coded.{Fits, Stands, Coded, Leads, BaseFits, Based, base_peak, IndexFits, to_part, type_of_part, IsFixed, IsBeyond, AllFit, Arranged}
 use Rattle.zir_compile.specs.Extents.{type_at}
 use Rattle.zir_compile.specs.Makes.{Refuses, Makes}
 use Rattle.zir_compile.proofs.Forms.{rooted-Part}
 use Rattle.zir_compile.proofs.Found.{fixed-Part, type-Part, path_root-Part, path_coded-Part}
-use Rattle.zir_compile.proofs.Leading.{Parted}
 use Rattle.zir_compile.proofs.Listed.{code-list, peak-list, coded-list, first-list, count-list}
 use Rattle.zir_compile.proofs.Making.{makes_err, makes_as, behind_code, small_below, below_small, and_first, and_second, both_true, not_both}
 

@@ -1,7 +1,7 @@
 -- Statements one behind the other, and what comes into scope on the way.
-use Rattle.std.specs.Prelude.{ℕ, ◌+◌, ◌<◌, ◌≤◌, ◌^◌, max, List, [], ◌∷◌, ◌++◌, length, drop, take, Bool, true, ◌&&◌, Option, ◌≡◌, refl}
-use Rattle.std.proofs.Common.{ap, sym, ◌∙◌, subst, append_assoc, append-nil, arith, get_or}
-use Rattle.std.proofs.lemmas.List.{drop_all, take_at}
+use Rattle.std.specs.Prelude.{ℕ, ◌+◌, ◌<◌, ◌≤◌, ◌^◌, max, List, [], ◌∷◌, ◌++◌, length, drop, ◌&&◌, Option, ◌≡◌, refl}
+use Rattle.std.proofs.Common.{ap, sym, ◌∙◌, append_assoc, append-nil, arith, get_or}
+use Rattle.std.proofs.lemmas.List.{drop_all}
 use denote.Hole.Carrier.{hidden}
 use Rattle.zir_tree.specs.declared.types.StructDef.{StructDef}
 use Rattle.zir_tree.specs.declared.stmt.Stmt.{Stmt, Var as VarStmt, Assign, Call, Error, If', IfElse', While', For'}
@@ -18,7 +18,7 @@ use Rattle.zir_compile.specs.declared.scope.Names.{Names}
 use Rattle.zir_compile.specs.Names.{signature_at, scope_of}
 use Rattle.zir_compile.specs.Stated.{Moved, Same, StmtFits, Stated, RowFits, Rowed}
 use Rattle.zir_compile.proofs.Finding.{at_place}
-use Rattle.zir_compile.proofs.Making.{behind_code, and_first, and_second, both_true}
+use Rattle.zir_compile.proofs.Making.{and_first}
 
 -- nested statements as lists
 pub steps-list : (g : Scope) (d : ℕ) (ss : List Stmt) → row_code g d (hidden-the_row-Stmt-0 ss) ≡ all_code g d ss
@@ -80,10 +80,6 @@ free_least g d (For' name a n _ b p) = omega arith
 pub all_least : (g : Scope) (d : ℕ) (ss : List Stmt) → d ≤ all_peak g d ss
 all_least g d [] = omega arith
 all_least g d (a ∷ ss) = let first = free_least g d a in let more = all_least (scope_after g d a) (free_after g d a) ss in omega arith
-
-pub free_at_most : (g : Scope) (d : ℕ) (ss : List Stmt) → free_after_all g d ss ≤ all_peak g d ss
-free_at_most g d [] = omega arith
-free_at_most g d (a ∷ ss) = let more = free_at_most (scope_after g d a) (free_after g d a) ss in omega arith
 
 -- so far and from here on
 pub record Doing (g0 : Scope) (ss : List Stmt) (d : ℕ) (old : List Step) (rest : List Stmt) (g : Scope) (free peak : ℕ) (steps : List Step) : Type 0 where

@@ -1,6 +1,6 @@
 -- Cells of types, whichever way their lengths stand.
 use Rattle.std.specs.Prelude.{ℕ, ◌+◌, ◌*◌, List, [], ◌∷◌, ◌++◌, fold, sum_by, reverse, ◌≡◌, refl}
-use Rattle.std.proofs.Common.{ap, ◌∙◌, sym, arith}
+use Rattle.std.proofs.Common.{ap, ◌∙◌, arith}
 use Rattle.std.proofs.lemmas.Grind.{reverse_onto}
 use Rattle.zir_tree.specs.declared.types.FieldDef.{FieldDef}
 use Rattle.zir_tree.specs.declared.types.Ty.{Ty}
@@ -17,8 +17,8 @@ pub parts_reversed : (ns : List ℕ) → parts_in (reverse ns) ≡ parts_in ns
 parts_reversed [] = refl
 parts_reversed (n ∷ ns) =
     ap parts_in (reverse_onto ns n []) ∙ parts_together (reverse ns) (n ∷ []) ∙ ap (λ k. k * (n * 1)) (parts_reversed ns) ∙ turned n (parts_in ns) where
-  turned : (a b : ℕ) → b * (a * 1) ≡ a * b
-  turned a b = grind arith
+      turned : (a b : ℕ) → b * (a * 1) ≡ a * b
+      turned a b = grind arith
 
 folded : (f g : FieldDef → ℕ) → ((x : FieldDef) → capped (f x) ≡ capped (g x)) → (fs : List FieldDef) (a b : ℕ) → capped a ≡ capped b →
     capped (fold (λ n x. n + f x) a fs) ≡ capped (fold (λ n x. n + g x) b fs)

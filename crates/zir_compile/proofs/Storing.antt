@@ -1,6 +1,6 @@
 -- Values that go into variables.
-use Rattle.std.specs.Prelude.{ℕ, pos, ◌+◌, ◌<◌, ◌≤◌, ◌^◌, max, List, [], ◌∷◌, ◌++◌, Bool, true, false, ◌&&◌, Option, Some, None, Result, ◌≡◌, refl}
-use Rattle.std.proofs.Common.{ap, sym, ◌∙◌, subst, append_assoc, append-nil, arith, IsErrAnd}
+use Rattle.std.specs.Prelude.{ℕ, pos, ◌+◌, ◌<◌, ◌≤◌, ◌^◌, max, List, [], ◌∷◌, ◌++◌, Bool, true, false, Option, Some, None, ◌≡◌, refl}
+use Rattle.std.proofs.Common.{ap, sym, ◌∙◌, subst, arith}
 use Rattle.zir_tree.specs.declared.ident.Ident.{Ident}
 use Rattle.zir_tree.specs.declared.types.Ty.{Ty}
 use Rattle.zir_tree.specs.declared.expr.Expr.{Expr}
@@ -8,7 +8,6 @@ use Rattle.zir_tree.specs.declared.stmt.Access.{Access}
 use Rattle.zir_tree.specs.declared.stmt.Access.TheVariants.{Index, Slice, Part}
 use Rattle.zir_tree.specs.declared.stmt.Stmt.{Assign}
 use Rattle.zir_meaning.specs.Functions.{pick}
-use Rattle.zir_cells.specs.Layout.{capped}
 use Rattle.zir_expr.specs.declared.frame.Spot.{Spot}
 use Rattle.zir_expr.specs.declared.frame.Spot.TheVariants.{Top, Local}
 use Rattle.zir_expr.specs.declared.steps.Step.{Step, Number, Store}
@@ -16,18 +15,15 @@ use Rattle.zir_code.specs.declared.scope.Holder.{Holder}
 use Rattle.zir_code.specs.Scopes.{Scope, variable, shifted, number_of}
 use Rattle.zir_code.specs.Types.{part_type, size_in}
 use Rattle.zir_code.specs.Coding.{stands, code_of, moving}
-use Rattle.zir_code.specs.Peaks.{peak_of, behind, is_coded, small}
+use Rattle.zir_code.specs.Peaks.{peak_of, behind, is_coded}
 use Rattle.zir_code.specs.Statements.{has_index, along_code, along_shift, along_peak, along_coded, kept_at, keeping, storing, storing_if, storing_peak, storing_coded}
-use Rattle.zir_compile.specs.declared.numbers.Unmade.{Unmade}
 use Rattle.zir_compile.specs.declared.made.Placed.{Placed}
 use Rattle.zir_compile.specs.declared.made.Path.{Path}
-use Rattle.zir_compile.specs.declared.made.Reach.{Reach}
 use Rattle.zir_compile.specs.Coded.{Fits, Coded, Leads, Grows}
 use Rattle.zir_compile.specs.Extents.{type_at}
-use Rattle.zir_compile.specs.Makes.{Refuses, Makes}
 use Rattle.zir_compile.specs.Stated.{along_type, AlongFits, StoreFits, StmtFits, Stated, store_code}
 use Rattle.zir_compile.proofs.Along.{offset_least}
-use Rattle.zir_compile.proofs.Making.{makes_err, behind_code, small_below, below_small, and_first, and_second, both_true}
+use Rattle.zir_compile.proofs.Making.{behind_code, small_below, below_small, and_first, and_second, both_true}
 
 -- a path without an index has no code
 no_code : (g : Scope) (ty : Ty) (o : ℕ) (path : List Access) → has_index path ≡ false → along_code g ty o path ≡ []

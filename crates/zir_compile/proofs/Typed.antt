@@ -1,5 +1,5 @@
 -- Well typed functions have the signatures that are made for them.
-use Rattle.std.specs.Prelude.{ℕ, suc, List, [], ◌∷◌, Bool, true, false, Option, ◌≡◌, refl}
+use Rattle.std.specs.Prelude.{ℕ, suc, List, [], ◌∷◌, Bool, true, false, Option, refl}
 use Rattle.zir_tree.specs.declared.types.StructDef.{StructDef}
 use Rattle.zir_tree.specs.declared.program.Function.{Function}
 use Rattle.zir_code.specs.declared.scope.Holder.{Holder}

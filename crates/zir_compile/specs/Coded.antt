@@ -1,8 +1,10 @@
 -- What it is for the code of expressions to be made.
-use Rattle.std.specs.Prelude.{ℕ, pos, ◌+◌, ◌-◌, ◌<◌, ◌^◌, List, [], ◌∷◌, ◌++◌, Bool, true, false, ◌&&◌, Option, Some, None, Result, Ok, Err, max, ◌≡◌}
+use Rattle.std.specs.Prelude.{ℕ, pos, ◌+◌, ◌-◌, ◌<◌, ◌^◌, List, [], ◌∷◌, ◌++◌, Bool, true, false, Option, Some, None, Result, Ok, Err, max, ◌≡◌}
 use Rattle.zir_tree.specs.declared.place.Place.{Place}
+use Rattle.zir_tree.specs.declared.types.Base.{Base}
 use Rattle.zir_tree.specs.declared.types.Base.TheVariants.{Unit as UnitTy}
 use Rattle.zir_tree.specs.declared.types.Ty.{Ty}
+use Rattle.zir_tree.specs.declared.expr.Operator.{Operator}
 use Rattle.zir_tree.specs.declared.expr.Expr.{Expr}
 use Rattle.zir_meaning.specs.Functions.{pick}
 use Rattle.zir_cells.specs.Layout.{capped}
@@ -14,7 +16,7 @@ use Rattle.zir_expr.specs.declared.steps.Step.{Step, Number}
 use Rattle.zir_code.specs.declared.scope.Holder.{Holder}
 use Rattle.zir_code.specs.Scopes.{Scope, shifted}
 use Rattle.zir_code.specs.Types.{type_in, holder_type, part_type, part_offset, size_in}
-use Rattle.zir_code.specs.Coding.{stands, code_of, is_rooted, width_if, root_if, copying, path_width, path_root, path_code, base_width, base_root, based, fixed, code_of_all, to_element, to_slice}
+use Rattle.zir_code.specs.Coding.{stands, code_of, is_rooted, width_if, root_if, copying, path_width, path_root, path_code, base_width, base_root, based, fixed, code_of_all, to_element, to_slice, operator_code}
 use Rattle.zir_code.specs.Peaks.{peak_of, path_peak, peak_of_all, is_coded, is_path_coded, all_coded, counts_elements}
 use Rattle.zir_compile.specs.declared.numbers.Unmade.{Unmade}
 use Rattle.zir_compile.specs.declared.numbers.Unmade.TheVariants.{Memory, Large}
@@ -32,7 +34,8 @@ pub record Fits (g : Scope) (e : Expr) (d : ℕ) : Type 0 where
   pub numbers : is_coded g e d ≡ true
 
 -- steps have grown by these, and a value stands at this spot
-pub record Stands (added : List Step) (spot : Spot) (t : Ty) (size most : ℕ) (old new : List Step) (placed : Placed) : Type 0 where
+pub record Stands (added : List Step) (spot : Spot) (t : Ty) (size most : ℕ) (old new : List Step)
+    (placed : Placed) : Type 0 where
   pub code : new ≡ old ++ added
   pub at : placed.at ≡ spot
   pub ty : type_at placed.ty ≡ t
@@ -41,10 +44,12 @@ pub record Stands (added : List Step) (spot : Spot) (t : Ty) (size most : ℕ) (
 
 -- steps have grown by the code of an expression, whose value stands where it should
 abbrev pub Coded : Scope → Expr → ℕ → List Step → List Step → Placed → Type 0
-Coded g e d old new placed = Stands (code_of g e d) (stands g e d) (type_in g e) (size_in g e) (peak_of g e d) old new placed
+Coded g e d old new placed =
+    Stands (code_of g e d) (stands g e d) (type_in g e) (size_in g e) (peak_of g e d) old new placed
 
 -- steps have grown by these, which leave the offset of a place in a cell
-pub record Leads (added : List Step) (start : Spot) (cell : ℕ) (t : Ty) (most : ℕ) (old new : List Step) (path : Path) : Type 0 where
+pub record Leads (added : List Step) (start : Spot) (cell : ℕ) (t : Ty) (most : ℕ) (old new : List Step)
+    (path : Path) : Type 0 where
   pub code : new ≡ old ++ added
   pub root : path.root ≡ start
   pub offset : path.offset ≡ cell
@@ -59,7 +64,8 @@ pub record PathFits (still : Bool) (g : Scope) (e : Expr) (d : ℕ) : Type 0 whe
 -- steps have grown by the code of a path
 abbrev pub Walked : Bool → Scope → Expr → ℕ → List Step → List Step → Path → Type 0
 Walked still g e d old new path =
-    Leads (path_code still g e d) (path_root still g e d) (d + path_width still g e) (type_in g e) (path_peak still g e d) old new path
+    Leads (path_code still g e d) (path_root still g e d) (d + path_width still g e) (type_in g e) (path_peak still g e d)
+    old new path
 
 -- the first cell behind all that the code of what is indexed or has parts uses
 abbrev pub base_peak : Bool → Scope → Expr → ℕ → ℕ
@@ -78,8 +84,8 @@ pub record ValueFits (g : Scope) (a : Expr) (d : ℕ) : Type 0 where
 -- steps have grown by it
 abbrev pub Based : Bool → Scope → Expr → ℕ → List Step → List Step → Path → Type 0
 Based still g a d old new path =
-    Leads (based (is_rooted a) (path_code still g a d) (code_of g a d) (d + base_width still g a)) (base_root still g a d)
-    (d + base_width still g a) (type_in g a) (base_peak still g a d) old new path
+    Leads (based (is_rooted a) (path_code still g a d) (code_of g a d) (d + base_width still g a))
+    (base_root still g a d) (d + base_width still g a) (type_in g a) (base_peak still g a d) old new path
 
 -- an index, or a slice of so many, as steps take it
 abbrev pub to_part : Scope → Ty → Option ℕ → ℕ → Spot → Place → Step
@@ -130,7 +136,8 @@ IsVariable (Some holder) (Some value) = (value.at ≡ holder.spot) × (type_at v
 abbrev pub VariablePath : Bool → Option Holder → ℕ → List Step → List Step → Path → Type 0
 VariablePath still found d old new path =
     let o = d + width_if still found in
-    Leads (copying still found d ++ Number (Local o) (pos 0) ∷ []) (root_if still found d) o (holder_type found) (o + 1) old new path
+    Leads (copying still found d ++ Number (Local o) (pos 0) ∷ []) (root_if still found d) o (holder_type found) (o + 1)
+    old new path
 
 -- a part of a value: where it stands, and its type
 pub record IsPartOf (g : Scope) (root : Spot) (t : Ty) (k : ℕ) (part : Standing) : Type 0 where
@@ -158,6 +165,13 @@ pub record Arranged (g : Scope) (es : List Expr) (d : ℕ) (old new : List Step)
 pub record SidesFit (g : Scope) (b : Expr) (free : ℕ) (x : Spot) (d : ℕ) : Type 0 where
   pub right : Fits g b free
   pub seconds : counts_seconds x (stands g b free) d
+
+-- steps that had grown by the code of the left side have grown by that of the operator
+abbrev pub Operated : Operator → Base → Place → Spot → Scope → Expr → ℕ → ℕ → List Step → List Step → ℕ → Type 0
+Operated o t p x g b free d old new peak =
+    (peak ≡ peak_of g b free) ×
+    ((before first : List Step) → old ≡ before ++ first →
+    new ≡ before ++ operator_code o t p x (stands g b free) d first (code_of g b free))
 
 -- steps have grown by these, and this is the first cell behind all that they use
 pub record Grows (added : List Step) (most : ℕ) (old new : List Step) (peak : ℕ) : Type 0 where

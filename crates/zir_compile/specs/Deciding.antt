@@ -20,4 +20,5 @@ fork_of false test right = record { test = test; first = right; second = [] }
 
 -- a left side in x goes to the cell of the answer, and where it does not decide these steps leave the right side in y
 abbrev pub left_decides : Bool → Spot → Spot → ℕ → List Step → List Step
-left_decides either x y d right = Copy (Local d) x ∷ Branch (fork_of either (Local d) (right ++ Copy (Local d) y ∷ [])) ∷ []
+left_decides either x y d right =
+    Copy (Local d) x ∷ Branch (fork_of either (Local d) (right ++ Copy (Local d) y ∷ [])) ∷ []

@@ -10,4 +10,5 @@ signature_at functions k = unwrap_or (slice_get functions k) None
 
 -- names in scope, to the definitions
 abbrev pub scope_of : Names → Scope
-scope_of names = record { structs = names.structs; tops = names.tops; locals = names.locals.items; funs = signature_at names.functions.items }
+scope_of names =
+    record { structs = names.structs; tops = names.tops; locals = names.locals.items; funs = signature_at names.functions.items }

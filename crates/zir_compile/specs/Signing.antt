@@ -44,16 +44,20 @@ pub record ResultFits (g : Scope) (r : Option Return) (d : ℕ) : Type 0 where
 -- 32 bits hold all numbers of the code of statements, and of the value behind them
 pub record BodyFits (g : Scope) (d : ℕ) (statements : List Stmt) (r : Option Return) : Type 0 where
   pub cells :
-      max (all_peak g d statements) (result_peak (scope_after_all g d statements) (free_after_all g d statements) r) < 2 ^ 32
+      max (all_peak g d statements) (result_peak (scope_after_all g d statements) (free_after_all g d statements) r)
+      < 2 ^ 32
   pub numbers :
-      all_stmts_coded g d statements && result_coded (scope_after_all g d statements) (free_after_all g d statements) r ≡ true
+      all_stmts_coded g d statements
+      && result_coded (scope_after_all g d statements) (free_after_all g d statements) r ≡ true
 
 -- the code of statements and of the value behind them
 pub record Bodied (g : Scope) (d : ℕ) (statements : List Stmt) (r : Option Return) (block : Block) : Type 0 where
   pub code :
-      block.steps ≡ all_code g d statements ++ result_code (scope_after_all g d statements) (free_after_all g d statements) r
+      block.steps ≡ all_code g d statements
+      ++ result_code (scope_after_all g d statements) (free_after_all g d statements) r
   pub peak :
-      block.peak ≡ max (all_peak g d statements) (result_peak (scope_after_all g d statements) (free_after_all g d statements) r)
+      block.peak ≡ max (all_peak g d statements)
+      (result_peak (scope_after_all g d statements) (free_after_all g d statements) r)
 
 -- the same structs, top variables and functions, whatever is in scope inside a body
 pub record Below (old new : Names) : Type 0 where
@@ -93,7 +97,8 @@ abbrev pub signature_of : Scope → Function → Option Signature
 signature_of g f = signature_if (is_signed g f) g f
 
 -- the signatures of functions behind n others, each over those before it
-abbrev pub signatures_after : List StructDef → List Holder → (ℕ → Option Signature) → ℕ → List Function → List (Option Signature)
+abbrev pub signatures_after :
+    List StructDef → List Holder → (ℕ → Option Signature) → ℕ → List Function → List (Option Signature)
 signatures_after structs tops funs n [] = []
 signatures_after structs tops funs n (f ∷ fs) =
     let made = signature_of (at_top structs tops funs) f in

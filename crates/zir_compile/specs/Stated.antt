@@ -1,5 +1,5 @@
 -- What it is for the code of statements to be made.
-use Rattle.std.specs.Prelude.{ℕ, pos, ◌+◌, ◌<◌, ◌^◌, max, List, [], ◌∷◌, ◌++◌, Bool, true, false, ◌&&◌, Option, Some, None, ◌≡◌}
+use Rattle.std.specs.Prelude.{ℕ, pos, ◌+◌, ◌<◌, ◌^◌, max, List, [], ◌∷◌, ◌++◌, Bool, true, false, Option, Some, None, ◌≡◌}
 use Rattle.zir_tree.specs.declared.types.Base.TheVariants.{Int32}
 use Rattle.zir_tree.specs.declared.types.Ty.{Ty}
 use Rattle.zir_tree.specs.declared.expr.Expr.{Expr}
@@ -14,17 +14,15 @@ use Rattle.zir_code.specs.declared.scope.Holder.{Holder}
 use Rattle.zir_code.specs.Scopes.{Scope, shifted, number_of}
 use Rattle.zir_code.specs.Types.{element_type, part_type, part_offset}
 use Rattle.zir_code.specs.Coding.{stands, code_of, settling, to_element, to_slice}
-use Rattle.zir_code.specs.Peaks.{peak_of, is_coded, counts_elements}
+use Rattle.zir_code.specs.Peaks.{peak_of}
 use Rattle.zir_code.specs.Statements.{stmt_code, scope_after, free_after, along_code, along_shift, along_peak, along_coded, storing_peak, storing_coded}
 use Rattle.zir_code.specs.Needs.{stmt_peak, stmt_coded, all_peak, all_stmts_coded, initial_coded}
 use Rattle.zir_code.specs.Bodies.{all_code, scope_after_all, free_after_all}
-use Rattle.zir_compile.specs.declared.made.Path.{Path}
 use Rattle.zir_compile.specs.declared.made.Reach.{Reach}
 use Rattle.zir_compile.specs.declared.made.Block.{Block}
 use Rattle.zir_compile.specs.declared.made.Range.{Range}
 use Rattle.zir_compile.specs.declared.scope.Names.{Names}
-use Rattle.zir_compile.specs.Extents.{type_at}
-use Rattle.zir_compile.specs.Coded.{Fits, IndexFits, Leads}
+use Rattle.zir_compile.specs.Coded.{Fits, IndexFits}
 
 -- names have come into scope behind the others, and nothing else
 pub record Moved (old new : Names) : Type 0 where
@@ -58,7 +56,8 @@ pub record RowFits (g : Scope) (ss : List Stmt) (d : ℕ) : Type 0 where
   pub cells : all_peak g d ss < 2 ^ 32
   pub numbers : all_stmts_coded g d ss ≡ true
 
-pub record Rowed (g : Scope) (ss : List Stmt) (d : ℕ) (old new : List Step) (behind : Scope) (reach : Reach) : Type 0 where
+pub record Rowed (g : Scope) (ss : List Stmt) (d : ℕ) (old new : List Step) (behind : Scope)
+    (reach : Reach) : Type 0 where
   pub code : new ≡ old ++ all_code g d ss
   pub scope : behind ≡ scope_after_all g d ss
   pub free : reach.free ≡ free_after_all g d ss
@@ -130,7 +129,8 @@ pub record AlongFits (g : Scope) (root : Spot) (ty : Ty) (o : ℕ) (path : List 
 -- so many cells from a spot go to where indexes lead in a variable
 abbrev pub store_code : Scope → Holder → List Access → Spot → ℕ → ℕ → List Step
 store_code g v path x o n =
-    Number (Local o) (pos 0) ∷ (along_code g v.ty o path ++ Store (shifted v.spot (along_shift g v.ty path)) (Local o) x n ∷ [])
+    Number (Local o) (pos 0) ∷ (along_code g v.ty o path
+    ++ Store (shifted v.spot (along_shift g v.ty path)) (Local o) x n ∷ [])
 
 -- 32 bits hold all numbers of an assignment of so many cells from d on
 pub record StoreFits (g : Scope) (v : Option Holder) (path : List Access) (d n : ℕ) : Type 0 where
@@ -146,7 +146,8 @@ pub record RangeFits (g : Scope) (a n : Expr) (d : ℕ) : Type 0 where
 -- the first index of a loop stands in the cell d, and its number of turns in the one behind it
 pub record Ranged (g : Scope) (a n : Expr) (d : ℕ) (old new : List Step) (range : Range) : Type 0 where
   pub code :
-      new ≡ old ++ (code_of g a d ++ (settling (stands g a d) d 1 ++ (code_of g n (d + 1) ++ settling (stands g n (d + 1)) (d + 1) 1)))
+      new ≡ old ++ (code_of g a d ++ (settling (stands g a d) d 1 ++ (code_of g n (d + 1)
+      ++ settling (stands g n (d + 1)) (d + 1) 1)))
   pub next : range.next ≡ d + 1
   pub peak : range.peak ≡ max (peak_of g a d) (max (peak_of g n (d + 1)) (d + 2))
 

@@ -46,8 +46,8 @@ fn blanking(d: u32, n: u32, steps: &mut Vec<Step>) -> Result<(), Unmade>
     }
 }
 
-/// A value of several cells, which may be part of what is assigned, goes to the cells from d on, and the answer is where it then
-/// stands.
+/// A value of several cells, which may be part of what is assigned, goes to the cells from d on, and the answer is
+/// where it then stands.
 fn keeping(at: Spot, d: u32, n: u32, steps: &mut Vec<Step>) -> Result<Spot, AllocError>
     ensures spot { IfOk result (λ spot. spot ≡ meant.kept_at at d n) }
     ensures code { OnOk result (steps.new.items ≡ steps.old.items ++ meant.keeping at d n) }
@@ -86,8 +86,8 @@ fn is_index(access: &Access) -> bool
 }
 
 impl Names {
-    /// Adds the code of an initial value, which goes to the n cells from d on, and answers the first cell behind all that it
-    /// uses besides.
+    /// Adds the code of an initial value, which goes to the n cells from d on, and answers the first cell behind all
+    /// that it uses besides.
     pub(crate) fn initial(
         &self,
         alloc: Global,
@@ -97,8 +97,8 @@ impl Names {
         steps: &mut Vec<Step>,
     ) -> Result<u32, Unmade>
         ensures { let g = scope_of self.now in
-            Makes (stated.InitialFits g e.now d n) (Grows (meant.initial_code g d n e.now) (stated.initial_most g d e.now)
-            steps.old.items steps.new.items) result }
+            Makes (stated.InitialFits g e.now d n)
+            (Grows (meant.initial_code g d n e.now) (stated.initial_most g d e.now) steps.old.items steps.new.items) result }
     {
         match e {
             None => {
@@ -115,7 +115,13 @@ impl Names {
     }
 
     /// Adds the code of one access behind a path.
-    fn access(&self, alloc: Global, access: &Access, base: Path, steps: &mut Vec<Step>) -> Result<Path, Unmade>
+    fn access(
+        &self,
+        alloc: Global,
+        access: &Access,
+        base: Path,
+        steps: &mut Vec<Step>,
+    ) -> Result<Path, Unmade>
         ensures { let g = scope_of self.now in let ty = type_at base.ty in let o = base.offset in
             Makes (stated.AccessFits g base.root ty o access.now) (Leads (stated.access_code g ty o access.now)
             (scopes.shifted base.root (stated.access_shift g ty access.now)) o (stated.access_type g ty access.now)
@@ -129,9 +135,16 @@ impl Names {
     }
 
     /// Adds the code of a path behind another.
-    fn along(&self, alloc: Global, base: Path, path: &[Access], steps: &mut Vec<Step>) -> Result<Path, Unmade>
+    fn along(
+        &self,
+        alloc: Global,
+        base: Path,
+        path: &[Access],
+        steps: &mut Vec<Step>,
+    ) -> Result<Path, Unmade>
         ensures { let g = scope_of self.now in let ty = type_at base.ty in let o = base.offset in
-            base.peak < 2 ^ 32 → scopes.number_of base.root < 2 ^ 32 → Makes (stated.AlongFits g base.root ty o path.now) (Leads (meant.along_code g ty o path.now)
+            base.peak < 2 ^ 32 → scopes.number_of base.root < 2 ^ 32 →
+            Makes (stated.AlongFits g base.root ty o path.now) (Leads (meant.along_code g ty o path.now)
             (scopes.shifted base.root (meant.along_shift g ty path.now)) o (stated.along_type g ty path.now)
             (max base.peak (meant.along_peak g ty o path.now)) steps.old.items steps.new.items) result }
     {
@@ -155,7 +168,8 @@ impl Names {
     ) -> Result<u32, Unmade>
         ensures { let g = scope_of self.now in let v = holder.now in
             Makes (stated.AlongFits g v.spot v.ty o path.now)
-            (Grows (stated.store_code g v path.now from o n) (meant.along_peak g v.ty o path.now) steps.old.items steps.new.items) result }
+            (Grows (stated.store_code g v path.now from o n) (meant.along_peak g v.ty o path.now)
+            steps.old.items steps.new.items) result }
     {
         let ty = Extent::of(alloc, &holder.ty)?;
         let base = starting(Spot::Local(0), o, ty, steps)?;
@@ -178,8 +192,8 @@ impl Names {
     ) -> Result<u32, Unmade>
         ensures { let g = scope_of self.now in let v = holder.now in meant.has_index path.now ≡ false →
             Makes (stated.StoreFits g (Some v) path.now d n)
-            (Grows (meant.storing g v path.now from (d + n) n) (meant.storing_peak g (Some v) path.now d n) steps.old.items steps.new.items)
-            result }
+            (Grows (meant.storing g v path.now from (d + n) n) (meant.storing_peak g (Some v) path.now d n)
+            steps.old.items steps.new.items) result }
     {
         let peak = behind(d, u64::from(n))?;
         let ty = Extent::of(alloc, &holder.ty)?;
@@ -208,8 +222,8 @@ impl Names {
     ) -> Result<u32, Unmade>
         ensures { let g = scope_of self.now in let v = holder.now in
             Makes (stated.StoreFits g (Some v) path.now d n)
-            (Grows (meant.storing g v path.now from (d + n) n) (meant.storing_peak g (Some v) path.now d n) steps.old.items steps.new.items)
-            result }
+            (Grows (meant.storing g v path.now from (d + n) n) (meant.storing_peak g (Some v) path.now d n)
+            steps.old.items steps.new.items) result }
     {
         if has_index(path) {
             let o = sum(d, u64::from(n))?;
@@ -232,8 +246,8 @@ impl Names {
     ) -> Result<u32, Unmade>
         ensures { let g = scope_of self.now in let v = scopes.variable g id in
             Makes (stated.StoreFits g v path.now d n)
-            (Grows (meant.storing_if g v path.now from (d + n) n) (meant.storing_peak g v path.now d n) steps.old.items steps.new.items)
-            result }
+            (Grows (meant.storing_if g v path.now from (d + n) n) (meant.storing_peak g v path.now d n)
+            steps.old.items steps.new.items) result }
     {
         match self.variable(id) {
             None => {
@@ -245,7 +259,7 @@ impl Names {
     }
 
     /// A variable gets another value.
-    pub(crate) fn assigned(
+    pub fn assigned(
         &self,
         alloc: Global,
         name: &Ident,

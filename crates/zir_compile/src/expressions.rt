@@ -33,7 +33,8 @@ use zir_tree::types::Base;
 
 /// A number of one cell, of this type, goes to the cell d.
 fn number(alloc: Global, n: i64, t: Base, d: u32, steps: &mut Vec<Step>) -> Result<Placed, Unmade>
-    ensures { Makes (d + 1 < 2 ^ 32) (coded.Stands (Number (Spot.Local d) n ∷ []) (Spot.Local d) (offsets.plain_type t) 1 (d + 1)
+    ensures { Makes (d + 1 < 2 ^ 32)
+        (coded.Stands (Number (Spot.Local d) n ∷ []) (Spot.Local d) (offsets.plain_type t) 1 (d + 1)
         steps.old.items steps.new.items) result }
 {
     let peak = sum(d, 1)?;
@@ -49,8 +50,15 @@ fn number(alloc: Global, n: i64, t: Base, d: u32, steps: &mut Vec<Step>) -> Resu
 }
 
 /// A number of a whole type goes to the cell d; one of any other type has no code.
-fn whole_number(alloc: Global, n: i64, t: Base, d: u32, steps: &mut Vec<Step>) -> Result<Placed, Unmade>
-    ensures { Makes ((d + 1 < 2 ^ 32) × (offsets.is_whole t ≡ true)) (coded.Stands (Number (Spot.Local d) n ∷ []) (Spot.Local d)
+fn whole_number(
+    alloc: Global,
+    n: i64,
+    t: Base,
+    d: u32,
+    steps: &mut Vec<Step>,
+) -> Result<Placed, Unmade>
+    ensures { Makes ((d + 1 < 2 ^ 32) × (offsets.is_whole t ≡ true))
+        (coded.Stands (Number (Spot.Local d) n ∷ []) (Spot.Local d)
         (offsets.plain_type t) 1 (d + 1) steps.old.items steps.new.items) result }
 {
     if is_whole(t) {
@@ -114,8 +122,16 @@ impl Names {
         })
     }
 
-    /// The answer of an operator whose left side has a type goes to the cells from d on, behind which there is a peak already.
-    fn operator_answer(&self, alloc: Global, operator: Operator, t: Base, d: u32, peak: u32) -> Result<Placed, Unmade>
+    /// The answer of an operator whose left side has a type goes to the cells from d on, behind which there is a peak
+    /// already.
+    fn operator_answer(
+        &self,
+        alloc: Global,
+        operator: Operator,
+        t: Base,
+        d: u32,
+        peak: u32,
+    ) -> Result<Placed, Unmade>
         ensures { let g = scope_of self.now in let ty = offsets.plain_type (types.operator_type operator t) in
             let n = types.cells_for g (offsets.plain_type t) in
             Makes (peaks.behind d n < 2 ^ 32)
@@ -134,7 +150,13 @@ impl Names {
     }
 
     /// The value of the variable of this number.
-    fn read_variable(&self, alloc: Global, x: &Ident, d: u32, steps: &mut Vec<Step>) -> Result<Placed, Unmade>
+    fn read_variable(
+        &self,
+        alloc: Global,
+        x: &Ident,
+        d: u32,
+        steps: &mut Vec<Step>,
+    ) -> Result<Placed, Unmade>
         ensures { let g = scope_of self.now in let e = Expr.Variable x.now in
             Makes (coded.Fits g e d) (coded.Coded g e d steps.old.items steps.new.items) result }
     {
@@ -146,7 +168,15 @@ impl Names {
 
     /// Adds the code of a prefix.
     #[cycle(coding)]
-    fn unary(&self, alloc: Global, a: &Expr, prefix: Prefix, t: Base, d: u32, steps: &mut Vec<Step>) -> Result<Placed, Unmade>
+    fn unary(
+        &self,
+        alloc: Global,
+        a: &Expr,
+        prefix: Prefix,
+        t: Base,
+        d: u32,
+        steps: &mut Vec<Step>,
+    ) -> Result<Placed, Unmade>
         ensures { (at : Place) → let g = scope_of self.now in let e = Expr.Unary prefix t a.now at in
             Makes (coded.Fits g e d) (coded.Coded g e d steps.old.items steps.new.items) result }
     {
@@ -157,7 +187,14 @@ impl Names {
 
     /// Adds the code of a conversion.
     #[cycle(coding)]
-    fn convert(&self, alloc: Global, a: &Expr, t: Base, d: u32, steps: &mut Vec<Step>) -> Result<Placed, Unmade>
+    fn convert(
+        &self,
+        alloc: Global,
+        a: &Expr,
+        t: Base,
+        d: u32,
+        steps: &mut Vec<Step>,
+    ) -> Result<Placed, Unmade>
         ensures { (at : Place) → let g = scope_of self.now in let e = Expr.Convert t a.now at in
             Makes (coded.Fits g e d) (coded.Coded g e d steps.old.items steps.new.items) result }
     {
@@ -224,10 +261,9 @@ impl Names {
         d: u32,
         steps: &mut Vec<Step>,
     ) -> Result<u32, Unmade>
-        ensures { let g = scope_of self.now in let y = coding.stands g b.now free in
-            Makes (coded.SidesFit g b.now free left d) (λ peak. (peak ≡ peaks.peak_of g b.now free) ×
-            ((before first : List OneStep) → steps.old.items ≡ before ++ first → steps.new.items ≡ before ++
-            coding.operator_code operator.0 operator.1 operator.2 left y d first (coding.code_of g b.now free))) result }
+        ensures { let g = scope_of self.now in
+            Makes (coded.SidesFit g b.now free left d)
+            (coded.Operated operator.0 operator.1 operator.2 left g b.now free d steps.old.items steps.new.items) result }
     {
         match deciding(operator.0) {
             None => self.operated(alloc, b, operator, left, free, d, steps),
@@ -254,7 +290,13 @@ impl Names {
         let free = sum(d, left.cells)?;
         let end = behind(d, left.cells)?;
         let right = self.right(alloc, b, operator, left.at, free, d, steps)?;
-        self.operator_answer(alloc, operator.0, operator.1, d, left.peak.max(end).max(right))
+        self.operator_answer(
+            alloc,
+            operator.0,
+            operator.1,
+            d,
+            left.peak.max(end).max(right),
+        )
     }
 
     /// Adds the code of the imaginary part of a complex number, behind that of the real part.
@@ -289,7 +331,13 @@ impl Names {
 
     /// Adds the code of arguments, elements or fields, each of which goes to cells behind those before it.
     #[cycle(coding)]
-    pub(crate) fn arguments(&self, alloc: Global, es: &[Expr], d: u32, steps: &mut Vec<Step>) -> Result<Arguments, Unmade>
+    pub(crate) fn arguments(
+        &self,
+        alloc: Global,
+        es: &[Expr],
+        d: u32,
+        steps: &mut Vec<Step>,
+    ) -> Result<Arguments, Unmade>
         ensures { let g = scope_of self.now in
             Makes (coded.AllFit g es.now d) (coded.Arranged g es.now d steps.old.items steps.new.items) result }
     {
@@ -327,8 +375,16 @@ impl Names {
     }
 
     /// Adds the call of the function at this place, whose arguments stand from the cell d on.
-    pub(crate) fn call(&self, alloc: Global, k: u32, d: u32, peak: u32, steps: &mut Vec<Step>) -> Result<Placed, Unmade>
-        ensures { let g = scope_of self.now in let found = g.funs k in let ty = types.result_type found in let n = types.cells_for g ty in
+    pub(crate) fn call(
+        &self,
+        alloc: Global,
+        k: u32,
+        d: u32,
+        peak: u32,
+        steps: &mut Vec<Step>,
+    ) -> Result<Placed, Unmade>
+        ensures { let g = scope_of self.now in let found = g.funs k in let ty = types.result_type found in
+            let n = types.cells_for g ty in
             let end = d + max n (peaks.needs_of found) in
             Makes (end < 2 ^ 32) (coded.Stands (coding.call_code found d) (Spot.Local d) ty n (max peak end)
             steps.old.items steps.new.items) result }
@@ -345,7 +401,14 @@ impl Names {
     }
 
     /// Adds the code of what a call calls, whose arguments stand from the cell d on.
-    fn called(&self, alloc: Global, callee: Callee, d: u32, peak: u32, steps: &mut Vec<Step>) -> Result<Placed, Unmade>
+    fn called(
+        &self,
+        alloc: Global,
+        callee: Callee,
+        d: u32,
+        peak: u32,
+        steps: &mut Vec<Step>,
+    ) -> Result<Placed, Unmade>
         ensures { let g = scope_of self.now in let ty = types.callee_type g callee in let n = types.cells_for g ty in
             let end = d + max n (peaks.callee_needs g callee) in
             Makes (end < 2 ^ 32) (coded.Stands (coding.callee_code g callee d) (Spot.Local d) ty n (max peak end)
@@ -353,7 +416,12 @@ impl Names {
     {
         match callee {
             Callee::Function(k) => self.call(alloc, k, d, peak, steps),
-            Callee::Struct(k) => self.call_answer(Extent::plain(alloc, Base::Struct(k)), 0, d, peak),
+            Callee::Struct(k) => self.call_answer(
+                Extent::plain(alloc, Base::Struct(k)),
+                0,
+                d,
+                peak,
+            ),
         }
     }
 
@@ -391,7 +459,13 @@ impl Names {
 
     /// Adds the code of an expression, whose cells from d on are free.
     #[cycle(coding)]
-    pub(crate) fn expression(&self, alloc: Global, e: &Expr, d: u32, steps: &mut Vec<Step>) -> Result<Placed, Unmade>
+    pub(crate) fn expression(
+        &self,
+        alloc: Global,
+        e: &Expr,
+        d: u32,
+        steps: &mut Vec<Step>,
+    ) -> Result<Placed, Unmade>
         ensures { let g = scope_of self.now in
             Makes (coded.Fits g e.now d) (coded.Coded g e.now d steps.old.items steps.new.items) result }
     {

@@ -32,13 +32,7 @@ impl Extent {
     pub fn of(alloc: Global, ty: &Ty) -> Result<Extent, AllocError>
         ensures { IfOk result (λ extent. type_at extent ≡ ty.now) }
     {
-        let lengths = ty
-            .lengths
-            .as_slice()
-            .iter()
-            .rev()
-            .copied()
-            .collect(alloc)?;
+        let lengths = ty.lengths.as_slice().iter().rev().copied().collect(alloc)?;
         Ok(Extent {
             inside_out: Ty {
                 lengths: Items::from_vec(lengths),

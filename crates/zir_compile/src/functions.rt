@@ -74,7 +74,12 @@ fn type_given(alloc: Global, given: &Option<TypeExpr>) -> Result<Ty, AllocError>
 }
 
 /// The signature of a function with this code, which needs so many cells.
-fn signed(alloc: Global, f: &Function, needs: u32, steps: Items<Step>) -> Result<Signature, AllocError>
+fn signed(
+    alloc: Global,
+    f: &Function,
+    needs: u32,
+    steps: Items<Step>,
+) -> Result<Signature, AllocError>
     ensures { IfOk result (λ made. made ≡ signing.with_code f.now needs steps) }
 {
     let params = types_of(alloc, f.params.as_slice())?;
@@ -89,9 +94,15 @@ fn signed(alloc: Global, f: &Function, needs: u32, steps: Items<Step>) -> Result
 }
 
 impl Names {
-    /// Adds the code of the value of a body, which goes to the body's first cells, and answers the first cell behind all that
-    /// it uses.
-    fn returned(&self, alloc: Global, r: &Option<Return>, d: u32, steps: &mut Vec<Step>) -> Result<u32, Unmade>
+    /// Adds the code of the value of a body, which goes to the body's first cells, and answers the first cell behind
+    /// all that it uses.
+    fn returned(
+        &self,
+        alloc: Global,
+        r: &Option<Return>,
+        d: u32,
+        steps: &mut Vec<Step>,
+    ) -> Result<u32, Unmade>
         ensures { let g = scope_of self.now in
             Makes (signing.ResultFits g r.now d) (Grows (bodies.result_code g d r.now) (cells.result_peak g d r.now)
             steps.old.items steps.new.items) result }
@@ -149,8 +160,8 @@ impl Names {
         }
     }
 
-    /// These structs, these top variables, and the signatures of these functions, each over those before it. A function has none
-    /// where 32 bits do not hold the numbers of its code.
+    /// These structs, these top variables, and the signatures of these functions, each over those before it. A function
+    /// has none where 32 bits do not hold the numbers of its code.
     pub fn of_functions(
         alloc: Global,
         structs: &[StructDef],
@@ -158,7 +169,8 @@ impl Names {
         functions: &[Function],
     ) -> Result<Names, AllocError>
         ensures { IfOk result (λ names. scope_of names ≡
-            at_top structs.now tops (more_signatures signing.no_signature 0 (signing.signatures_of structs.now tops functions.now))) }
+            at_top structs.now tops (more_signatures signing.no_signature 0
+            (signing.signatures_of structs.now tops functions.now))) }
     {
         let structs = Structs::of(alloc, structs)?;
         let mut names = Names {

@@ -18,8 +18,8 @@ pub mod structs;
 
 ghost use Rattle.zir_compile.specs.Signing.{TypedAreSigned};
 
-/// Functions that are well typed in the cells of the signatures that are made for them have these signatures, so that their
-/// code does what they mean.
+/// Functions that are well typed in the cells of the signatures that are made for them have these signatures, so that
+/// their code does what they mean.
 pub fn typed_are_signed()
     ensures { TypedAreSigned }
 {}

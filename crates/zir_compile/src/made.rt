@@ -45,15 +45,16 @@ pub struct Parameters {
     pub free: u32,
 }
 
-/// The cell of the number of turns of a loop, behind that of its index, and the first cell behind all that the code of both uses.
+/// The cell of the number of turns of a loop, behind that of its index, and the first cell behind all that the code of
+/// both uses.
 #[derive(Clone, Copy)]
 pub struct Range {
     pub next: u32,
     pub peak: u32,
 }
 
-/// Where the value of an expression stands after its code, its type, its cells, of which a number above 2^64 - 1 counts as that,
-/// and the first cell behind all that the code uses.
+/// Where the value of an expression stands after its code, its type, its cells, of which a number above 2^64 - 1 counts
+/// as that, and the first cell behind all that the code uses.
 #[derive(Drop)]
 pub struct Placed {
     pub at: Spot,
@@ -76,8 +77,8 @@ pub struct Standing {
     pub ty: Extent,
 }
 
-/// A place that indexes lead to: the spot that its offset counts from, the cell that holds the offset, the type of what stands
-/// there, and the first cell behind all that the code uses.
+/// A place that indexes lead to: the spot that its offset counts from, the cell that holds the offset, the type of what
+/// stands there, and the first cell behind all that the code uses.
 #[derive(Drop)]
 pub struct Path {
     pub root: Spot,

@@ -69,7 +69,8 @@ fn other_pairs(
     steps: &mut Vec<Step>,
 ) -> Result<(), AllocError>
     ensures { seconds ≡ seconds_at sides.0 sides.1 d → OnOk result (steps.new.items ≡
-        steps.old.items ++ (coding.same_pairs sides.0 sides.1 at d ++ ChangeStep Change.Not (Spot.Local d) (Spot.Local d) ∷ [])) }
+        steps.old.items ++ (coding.same_pairs sides.0 sides.1 at d
+        ++ ChangeStep Change.Not (Spot.Local d) (Spot.Local d) ∷ [])) }
 {
     let to = Spot::Local(d);
     same_pairs(at, sides, seconds, d, steps)?;
@@ -156,7 +157,15 @@ fn operating_at(
 {
     match t {
         Base::Complex16 => operating_pairs(operator, Whole::Sixteen, at, sides, seconds, d, steps),
-        Base::Complex32 => operating_pairs(operator, Whole::ThirtyTwo, at, sides, seconds, d, steps),
+        Base::Complex32 => operating_pairs(
+            operator,
+            Whole::ThirtyTwo,
+            at,
+            sides,
+            seconds,
+            d,
+            steps,
+        ),
         _ => operating_cells(operator, t, at, sides, d, steps),
     }
 }
@@ -198,8 +207,8 @@ fn fork_of(alloc: Global, either: bool, test: Spot, right: Items<Step>) -> Fork
     }
 }
 
-/// The left side, which stands in a spot, goes to the cell of the answer. Where it is not what decides, these steps follow,
-/// which leave the right side in another spot.
+/// The left side, which stands in a spot, goes to the cell of the answer. Where it is not what decides, these steps
+/// follow, which leave the right side in another spot.
 fn leaving_out(
     alloc: Global,
     either: bool,
@@ -208,7 +217,8 @@ fn leaving_out(
     right: Vec<Step>,
     steps: &mut Vec<Step>,
 ) -> Result<(), AllocError>
-    ensures { OnOk result (steps.new.items ≡ steps.old.items ++ deciding.left_decides either sides.0 sides.1 d right.items) }
+    ensures { OnOk result (steps.new.items ≡
+        steps.old.items ++ deciding.left_decides either sides.0 sides.1 d right.items) }
 {
     let to = Spot::Local(d);
     let mut right = right;

@@ -29,7 +29,8 @@ use zir_tree::types::Base;
 
 /// Where an index is looked for: among all elements, or among the first elements of slices of so many.
 fn elements_of(range: Option<u64>, n: u64, size: u64, at: Place) -> Result<Elements, Unmade>
-    ensures { Makes ((n + 1 < 2 ^ 32) × (size < 2 ^ 32)) (λ elements. elements ≡ coded.elements_in range n size at) result }
+    ensures { Makes ((n + 1 < 2 ^ 32) × (size < 2 ^ 32))
+        (λ elements. elements ≡ coded.elements_in range n size at) result }
 {
     let most = sum(1, n)?;
     let size = sum(0, size)?;
@@ -61,7 +62,8 @@ fn part_of_array(range: Option<u64>, element: Extent) -> Result<Extent, AllocErr
 
 /// The offset 0 of a value of this type, whose first cell is a root, goes into a cell.
 pub fn starting(root: Spot, offset: u32, ty: Extent, steps: &mut Vec<Step>) -> Result<Path, Unmade>
-    ensures { Makes (offset + 1 < 2 ^ 32) (coded.Leads (Number (Spot.Local offset) (pos 0) ∷ []) root offset (type_at ty) (offset + 1)
+    ensures { Makes (offset + 1 < 2 ^ 32)
+        (coded.Leads (Number (Spot.Local offset) (pos 0) ∷ []) root offset (type_at ty) (offset + 1)
         steps.old.items steps.new.items) result }
 {
     let peak = sum(offset, 1)?;
@@ -85,7 +87,13 @@ fn is_in_place(still: bool, spot: Spot) -> bool
 }
 
 /// The path to a variable, which is copied where something further out may change it.
-fn holder_path(alloc: Global, still: bool, holder: &Holder, d: u32, steps: &mut Vec<Step>) -> Result<Path, Unmade>
+fn holder_path(
+    alloc: Global,
+    still: bool,
+    holder: &Holder,
+    d: u32,
+    steps: &mut Vec<Step>,
+) -> Result<Path, Unmade>
     ensures { Makes (d + coding.width_if still (Some holder.now) + 1 < 2 ^ 32)
         (coded.VariablePath still (Some holder.now) d steps.old.items steps.new.items) result }
 {
@@ -119,7 +127,11 @@ impl Names {
     }
 
     /// A variable, which stands without code where it is in scope.
-    pub(crate) fn standing_variable(&self, alloc: Global, id: u32) -> Result<Option<Standing>, AllocError>
+    pub(crate) fn standing_variable(
+        &self,
+        alloc: Global,
+        id: u32,
+    ) -> Result<Option<Standing>, AllocError>
         ensures { IfOk result (coded.IsVariable (scopes.variable (scope_of self.now) id)) }
     {
         match self.variable(id) {
@@ -160,7 +172,12 @@ impl Names {
 
     /// Where a part of an expression stands without code.
     #[cycle(standing)]
-    pub(crate) fn standing_part(&self, alloc: Global, a: &Expr, k: u32) -> Result<Option<Standing>, Unmade>
+    pub(crate) fn standing_part(
+        &self,
+        alloc: Global,
+        a: &Expr,
+        k: u32,
+    ) -> Result<Option<Standing>, Unmade>
         ensures { (name : Name) (at : Place) → coded.Finds (scope_of self.now) (Expr.Part a.now name k at) result }
     {
         match self.standing(alloc, a)? {
@@ -173,11 +190,16 @@ impl Names {
     }
 
     /// A value that stands without code is read there, or copied to the cells from d on.
-    pub(crate) fn read(&self, value: Standing, d: u32, steps: &mut Vec<Step>) -> Result<Placed, Unmade>
+    pub(crate) fn read(
+        &self,
+        value: Standing,
+        d: u32,
+        steps: &mut Vec<Step>,
+    ) -> Result<Placed, Unmade>
         ensures { let n = types.cells_for (scope_of self.now) (type_at value.ty) in
             Makes (peaks.behind d n < 2 ^ 32)
-            (coded.Stands (coding.reading (Some value.at) n d []) (coding.read_at (Some value.at) d) (type_at value.ty) n
-            (peaks.behind d n) steps.old.items steps.new.items) result }
+            (coded.Stands (coding.reading (Some value.at) n d []) (coding.read_at (Some value.at) d) (type_at value.ty)
+            n (peaks.behind d n) steps.old.items steps.new.items) result }
     {
         let Standing { at, ty } = value;
         let cells = self.structs.cells_at(&ty);
@@ -193,9 +215,11 @@ impl Names {
 
     /// A part of what a path leads to.
     pub(crate) fn parted(&self, alloc: Global, path: Path, k: u32) -> Result<Path, Unmade>
-        ensures { let g = scope_of self.now in let ty = type_at path.ty in let offset = types.part_offset g.structs ty k in
+        ensures { let g = scope_of self.now in let ty = type_at path.ty in
+            let offset = types.part_offset g.structs ty k in
             Makes (scopes.number_of path.root + offset < 2 ^ 32)
-            (coded.Leads [] (scopes.shifted path.root offset) path.offset (types.part_type g.structs ty k) path.peak [] []) result }
+            (coded.Leads [] (scopes.shifted path.root offset) path.offset (types.part_type g.structs ty k) path.peak [] [])
+            result }
     {
         let part = self.part_of(alloc, path.root, &path.ty, k)?;
         Ok(Path {
@@ -210,10 +234,15 @@ impl Names {
     fn loaded(&self, path: Path, d: u32, steps: &mut Vec<Step>) -> Result<Placed, Unmade>
         ensures { let ty = type_at path.ty in let n = types.cells_for (scope_of self.now) ty in
             Makes (d + n < 2 ^ 32)
-            (coded.Stands (Load (Spot.Local d) path.root (Spot.Local path.offset) n ∷ []) (Spot.Local d) ty n (max path.peak (d + n))
-            steps.old.items steps.new.items) result }
+            (coded.Stands (Load (Spot.Local d) path.root (Spot.Local path.offset) n ∷ []) (Spot.Local d) ty n
+            (max path.peak (d + n)) steps.old.items steps.new.items) result }
     {
-        let Path { root, offset, ty, peak } = path;
+        let Path {
+            root,
+            offset,
+            ty,
+            peak,
+        } = path;
         let cells = self.structs.cells_at(&ty);
         let end = sum(d, cells)?;
         let to = Spot::Local(d);
@@ -227,8 +256,16 @@ impl Names {
     }
 
     /// The path to the variable of this number.
-    fn variable_path(&self, alloc: Global, still: bool, id: u32, d: u32, steps: &mut Vec<Step>) -> Result<Path, Unmade>
-        ensures { let found = scopes.variable (scope_of self.now) id in Makes (d + coding.width_if still found + 1 < 2 ^ 32)
+    fn variable_path(
+        &self,
+        alloc: Global,
+        still: bool,
+        id: u32,
+        d: u32,
+        steps: &mut Vec<Step>,
+    ) -> Result<Path, Unmade>
+        ensures { let found = scopes.variable (scope_of self.now) id in
+            Makes (d + coding.width_if still found + 1 < 2 ^ 32)
             (coded.VariablePath still found d steps.old.items steps.new.items) result }
     {
         match self.variable(id) {
@@ -250,14 +287,20 @@ impl Names {
     ) -> Result<Path, Unmade>
         ensures { let g = scope_of self.now in let o = base.offset in let ty = type_at base.ty in
             Makes (coded.IndexFits g i.now o ty) (coded.Leads
-            (coding.code_of g i.now (o + 1) ++ coded.to_part g ty range o (coding.stands g i.now (o + 1)) at ∷ []) base.root o
+            (coding.code_of g i.now (o + 1)
+            ++ coded.to_part g ty range o (coding.stands g i.now (o + 1)) at ∷ []) base.root o
             (coded.type_of_part range (types.element_type ty)) (max base.peak (peaks.peak_of g i.now (o + 1)))
             steps.old.items steps.new.items) result }
     {
         let behind_offset = base.offset + 1;
         let x = self.expression(alloc, i, behind_offset, steps)?;
         let n = base.ty.first_length();
-        let Path { root, offset, ty, peak } = base;
+        let Path {
+            root,
+            offset,
+            ty,
+            peak,
+        } = base;
         let element = ty.element();
         let elements = elements_of(range, n, self.structs.cells_at(&element), at)?;
         let to = Spot::Local(offset);
@@ -273,9 +316,17 @@ impl Names {
 
     /// Adds the code of a path; of what is none nothing is said.
     #[cycle(coding)]
-    fn path(&self, alloc: Global, still: bool, e: &Expr, d: u32, steps: &mut Vec<Step>) -> Result<Path, Unmade>
+    fn path(
+        &self,
+        alloc: Global,
+        still: bool,
+        e: &Expr,
+        d: u32,
+        steps: &mut Vec<Step>,
+    ) -> Result<Path, Unmade>
         ensures { coding.is_rooted e.now ≡ true → let g = scope_of self.now in
-            Makes (coded.PathFits still g e.now d) (coded.Walked still g e.now d steps.old.items steps.new.items) result }
+            Makes (coded.PathFits still g e.now d)
+            (coded.Walked still g e.now d steps.old.items steps.new.items) result }
     {
         match e {
             Expr::Variable(x) => self.variable_path(alloc, still, x.id, d, steps),
@@ -306,15 +357,33 @@ impl Names {
 
     /// The path to a value that has code, which goes to the cells from d on.
     #[cycle(coding)]
-    fn value_path(&self, alloc: Global, a: &Expr, d: u32, steps: &mut Vec<Step>) -> Result<Path, Unmade>
+    fn value_path(
+        &self,
+        alloc: Global,
+        a: &Expr,
+        d: u32,
+        steps: &mut Vec<Step>,
+    ) -> Result<Path, Unmade>
         ensures { let g = scope_of self.now in let o = d + types.size_in g a.now in
-            Makes (coded.ValueFits g a.now d) (coded.Leads (coding.code_of g a.now d ++ Number (Spot.Local o) (pos 0) ∷ [])
-            (Spot.Local d) o (types.type_in g a.now) (max (peaks.peak_of g a.now d) (o + 1)) steps.old.items steps.new.items) result }
+            Makes (coded.ValueFits g a.now d)
+            (coded.Leads (coding.code_of g a.now d ++ Number (Spot.Local o) (pos 0) ∷ [])
+            (Spot.Local d) o (types.type_in g a.now) (max (peaks.peak_of g a.now d) (o + 1))
+            steps.old.items steps.new.items) result }
     {
-        let Placed { ty, cells, peak, .. } = self.expression(alloc, a, d, steps)?;
+        let Placed {
+            ty,
+            cells,
+            peak,
+            ..
+        } = self.expression(alloc, a, d, steps)?;
         let offset = sum(d, cells)?;
         let path = starting(Spot::Local(d), offset, ty, steps)?;
-        let Path { root, offset, ty, peak: end } = path;
+        let Path {
+            root,
+            offset,
+            ty,
+            peak: end,
+        } = path;
         Ok(Path {
             root,
             offset,
@@ -325,9 +394,17 @@ impl Names {
 
     /// Adds the code of what is indexed or has parts: a path, or a value that goes to the cells from d on.
     #[cycle(coding)]
-    pub(crate) fn base(&self, alloc: Global, still: bool, a: &Expr, d: u32, steps: &mut Vec<Step>) -> Result<Path, Unmade>
+    pub(crate) fn base(
+        &self,
+        alloc: Global,
+        still: bool,
+        a: &Expr,
+        d: u32,
+        steps: &mut Vec<Step>,
+    ) -> Result<Path, Unmade>
         ensures { let g = scope_of self.now in
-            Makes (coded.BaseFits still g a.now d) (coded.Based still g a.now d steps.old.items steps.new.items) result }
+            Makes (coded.BaseFits still g a.now d)
+            (coded.Based still g a.now d steps.old.items steps.new.items) result }
     {
         if is_rooted(a) {
             self.path(alloc, still, a, d, steps)
@@ -361,7 +438,14 @@ impl Names {
 
     /// Adds the code of a part of a struct or of a complex number.
     #[cycle(coding)]
-    pub(crate) fn part(&self, alloc: Global, a: &Expr, k: u32, d: u32, steps: &mut Vec<Step>) -> Result<Placed, Unmade>
+    pub(crate) fn part(
+        &self,
+        alloc: Global,
+        a: &Expr,
+        k: u32,
+        d: u32,
+        steps: &mut Vec<Step>,
+    ) -> Result<Placed, Unmade>
         ensures { (name : Name) (at : Place) → let g = scope_of self.now in let e = Expr.Part a.now name k at in
             Makes (coded.Fits g e d) (coded.Coded g e d steps.old.items steps.new.items) result }
     {

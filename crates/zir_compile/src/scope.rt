@@ -9,8 +9,8 @@ use crate::structs::Structs;
 use sqlite_items::Items;
 use zir_code::scope::{Holder, Signature};
 
-/// The structs, the top variables, the names in scope inside the body whose code is made, and the functions before it, each
-/// with its signature where calls of it have code.
+/// The structs, the top variables, the names in scope inside the body whose code is made, and the functions before it,
+/// each with its signature where calls of it have code.
 #[derive(Drop)]
 pub struct Names {
     pub structs: Structs,

@@ -67,9 +67,14 @@ fn failing(at: Place, d: u32, steps: &mut Vec<Step>) -> Result<Reach, AllocError
 }
 
 impl Names {
-    /// The code of statements, whose cells from d on are free. What they declare comes into scope. There is no code, and nothing
-    /// comes into scope, where 32 bits do not hold its numbers.
-    pub fn statements(&mut self, alloc: Global, statements: &[Stmt], d: u32) -> Result<Option<Written>, AllocError>
+    /// The code of statements, whose cells from d on are free. What they declare comes into scope. There is no code,
+    /// and nothing comes into scope, where 32 bits do not hold its numbers.
+    pub fn statements(
+        &mut self,
+        alloc: Global,
+        statements: &[Stmt],
+        d: u32,
+    ) -> Result<Option<Written>, AllocError>
         ensures code { IfOk result (λ made. made ≡ written (scope_of self.old) statements.now d) }
         ensures scope { OnOk result (scope_of self.new ≡ scope_behind (scope_of self.old) statements.now d) }
     {
@@ -90,10 +95,17 @@ impl Names {
     }
 
     /// A variable comes into scope.
-    fn declared(&mut self, alloc: Global, v: &Var, d: u32, steps: &mut Vec<Step>) -> Result<Reach, Unmade>
+    fn declared(
+        &mut self,
+        alloc: Global,
+        v: &Var,
+        d: u32,
+        steps: &mut Vec<Step>,
+    ) -> Result<Reach, Unmade>
         ensures moved { stated.Moved self.old self.new }
         ensures code { let g = scope_of self.old in let a = Stmt.Var v.now in
-            Makes (stated.StmtFits g a d) (stated.Stated g a d steps.old.items steps.new.items (scope_of self.new)) result }
+            Makes (stated.StmtFits g a d)
+            (stated.Stated g a d steps.old.items steps.new.items (scope_of self.new)) result }
     {
         let ty = type_of(alloc, &v.ty)?;
         let free = sum(d, self.structs.cells(&ty))?;
@@ -112,7 +124,14 @@ impl Names {
     }
 
     /// A function is called, and its value left out.
-    fn call_alone(&self, alloc: Global, k: u32, es: &[Expr], d: u32, steps: &mut Vec<Step>) -> Result<Reach, Unmade>
+    fn call_alone(
+        &self,
+        alloc: Global,
+        k: u32,
+        es: &[Expr],
+        d: u32,
+        steps: &mut Vec<Step>,
+    ) -> Result<Reach, Unmade>
         ensures { (name : OneIdent) → let g = scope_of self.now in let a = Stmt.Call name k es.now in
             Makes (stated.StmtFits g a d) (stated.Stated g a d steps.old.items steps.new.items g) result }
     {
@@ -125,9 +144,17 @@ impl Names {
     }
 
     /// Adds the code of the first index of a loop and of its number of turns, each into a cell of its own.
-    fn range(&self, alloc: Global, from: &Expr, n: &Expr, d: u32, steps: &mut Vec<Step>) -> Result<Range, Unmade>
+    fn range(
+        &self,
+        alloc: Global,
+        from: &Expr,
+        n: &Expr,
+        d: u32,
+        steps: &mut Vec<Step>,
+    ) -> Result<Range, Unmade>
         ensures { let g = scope_of self.now in
-            Makes (stated.RangeFits g from.now n.now d) (stated.Ranged g from.now n.now d steps.old.items steps.new.items) result }
+            Makes (stated.RangeFits g from.now n.now d)
+            (stated.Ranged g from.now n.now d steps.old.items steps.new.items) result }
     {
         let first = self.expression(alloc, from, d, steps)?;
         let next = sum(d, 1)?;
@@ -143,7 +170,14 @@ impl Names {
 
     /// Adds a choice by a test that stands in a cell, whose first way is these statements.
     #[cycle(stating)]
-    fn choice(&mut self, alloc: Global, a: &[Stmt], test: Placed, d: u32, steps: &mut Vec<Step>) -> Result<Reach, Unmade>
+    fn choice(
+        &mut self,
+        alloc: Global,
+        a: &[Stmt],
+        test: Placed,
+        d: u32,
+        steps: &mut Vec<Step>,
+    ) -> Result<Reach, Unmade>
         ensures same { stated.Same self.old self.new }
         ensures code { (e : OneExpr) (at : Place) (before : List OneStep) → let g = scope_of self.old in
             Fits g e d → Coded g e d before steps.old.items test → let s = Stmt.If e a.now at in
@@ -173,7 +207,8 @@ impl Names {
         steps: &mut Vec<Step>,
     ) -> Result<Reach, Unmade>
         ensures same { stated.Same self.old self.new }
-        ensures code { (e : OneExpr) (a : List OneStmt) (at : Place) (before : List OneStep) → let g = scope_of self.old in
+        ensures code { (e : OneExpr) (a : List OneStmt) (at : Place) (before : List OneStep) →
+            let g = scope_of self.old in
             Fits g e d → Coded g e d before steps.old.items test → stated.RowFits g a d → stated.Blocked g a d first →
             let s = Stmt.IfElse e a b.now at in
             Makes (stated.StmtFits g s d) (stated.Stated g s d before steps.new.items g) result }
@@ -220,7 +255,14 @@ impl Names {
 
     /// The code of these statements in a scope of their own, where the index of a loop in the cell d is in scope too.
     #[cycle(stating)]
-    fn counting(&mut self, alloc: Global, b: &[Stmt], id: u32, d: u32, next: u32) -> Result<Block, Unmade>
+    fn counting(
+        &mut self,
+        alloc: Global,
+        b: &[Stmt],
+        id: u32,
+        d: u32,
+        next: u32,
+    ) -> Result<Block, Unmade>
         ensures same { stated.Same self.old self.new }
         ensures code { next ≡ d + 1 → let g = with_index (scope_of self.old) d id in
             Makes (stated.RowFits g b.now (d + 1)) (stated.Blocked g b.now (d + 1)) result }
@@ -244,7 +286,8 @@ impl Names {
         steps: &mut Vec<Step>,
     ) -> Result<Reach, Unmade>
         ensures same { stated.Same self.old self.new }
-        ensures code { (name : OneIdent) (a n : OneExpr) (at : Place) (before : List OneStep) → let g = scope_of self.old in
+        ensures code { (name : OneIdent) (a n : OneExpr) (at : Place) (before : List OneStep) →
+            let g = scope_of self.old in
             name.id ≡ id → stated.RangeFits g a n d → stated.Ranged g a n d before steps.old.items range →
             let s = Stmt.For name a n b.now at in
             Makes (stated.StmtFits g s d) (stated.Stated g s d before steps.new.items g) result }
@@ -263,10 +306,17 @@ impl Names {
 
     /// Adds the code of a statement. What it declares comes into scope.
     #[cycle(stating)]
-    fn statement(&mut self, alloc: Global, a: &Stmt, d: u32, steps: &mut Vec<Step>) -> Result<Reach, Unmade>
+    fn statement(
+        &mut self,
+        alloc: Global,
+        a: &Stmt,
+        d: u32,
+        steps: &mut Vec<Step>,
+    ) -> Result<Reach, Unmade>
         ensures moved { stated.Moved self.old self.new }
         ensures code { let g = scope_of self.old in
-            Makes (stated.StmtFits g a.now d) (stated.Stated g a.now d steps.old.items steps.new.items (scope_of self.new)) result }
+            Makes (stated.StmtFits g a.now d)
+            (stated.Stated g a.now d steps.old.items steps.new.items (scope_of self.new)) result }
     {
         match a {
             Stmt::Var(v) => self.declared(alloc, v, d, steps),
@@ -317,7 +367,13 @@ impl Names {
 
     /// Adds the code of statements one after the other. What they declare comes into scope.
     #[cycle(stating)]
-    pub(crate) fn row(&mut self, alloc: Global, statements: &[Stmt], d: u32, steps: &mut Vec<Step>) -> Result<Reach, Unmade>
+    pub(crate) fn row(
+        &mut self,
+        alloc: Global,
+        statements: &[Stmt],
+        d: u32,
+        steps: &mut Vec<Step>,
+    ) -> Result<Reach, Unmade>
         ensures moved { stated.Moved self.old self.new }
         ensures code { let g = scope_of self.old in
             Makes (stated.RowFits g statements.now d)

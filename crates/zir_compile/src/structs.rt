@@ -32,7 +32,8 @@ impl Model for Structs {
 
     ghost view = { λ structs. structs.definitions };
 
-    ghost invariant = { λ structs. (ty : Ty) → capped (cells_in structs.layouts ty) ≡ capped (layout_of structs.definitions ty) };
+    ghost invariant = { λ structs. (ty : Ty) →
+        capped (cells_in structs.layouts ty) ≡ capped (layout_of structs.definitions ty) };
 }
 
 /// The same type as another.

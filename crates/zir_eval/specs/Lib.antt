@@ -1,3 +1,5 @@
+pub mod Cells
 pub mod Ends
 pub mod Opening
+pub mod Initials
 pub mod Laws

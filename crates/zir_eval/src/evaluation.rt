@@ -2,8 +2,7 @@
 
 ghost use Rattle.zir_eval.specs.Ends.{Evaluates, Executes};
 
-use zir_compile::expressions::Made;
-use zir_compile::statements::Written;
+use zir_compile::made::{Made, Written};
 use zir_expr::frame::{Frame, Halt};
 use zir_expr::steps::run;
 use zir_tree::ends::Trap;
@@ -17,13 +16,13 @@ pub enum Stop {
     Spent,
 }
 
-/// Evaluates an expression by its code, where the cells of the body that runs begin at a base, and answers the cell of its
-/// value, which says nothing where that is unit.
-pub fn eval(made: &Made, frame: &mut Frame, base: usize) -> Result<i64, Stop>
+/// Evaluates an expression by its code, where the cells of the body that runs begin at a base, and answers the index of the
+/// first cell of its value.
+pub fn eval(made: &Made, frame: &mut Frame, base: usize) -> Result<usize, Stop>
     ensures { Evaluates made.now base frame.old result frame.new }
 {
     match run(made.steps.as_slice(), frame, base) {
-        Ok(()) => Ok(frame.cell(made.at.index(base))),
+        Ok(()) => Ok(made.at.index(base)),
         Err(Halt::Trap) => Err(Stop::Trap(frame.trap())),
         Err(Halt::Spent) => Err(Stop::Spent),
     }

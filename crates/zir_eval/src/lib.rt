@@ -2,7 +2,6 @@
 #![tactic(auto)]
 
 pub mod evaluation;
+pub mod initials;
 pub mod opening;
-#[cfg(test)]
-mod tests;
 pub mod variables;

@@ -1,5 +1,4 @@
-use Rattle.std.proofs.Common.{◌≡◌, ◌+◌, ◌++◌, drop}
-use Rattle.zir_code.specs.Bodies.{parameters, cells_of_all}
+use Rattle.std.proofs.Common.{◌≡◌, drop}
 use Rattle.zir_code.specs.Scopes.{Scope}
 use Rattle.zir_compile.proofs.Signed.{Params}
 use Rattle.zir_compile.proofs.functions.parameters.Given as goal

@@ -1,8 +1,5 @@
-use Rattle.std.proofs.Common.{◌≡◌, Ok, Err, ap, sym, subst, ◌∙◌, arith, to_z, of_z}
-use Rattle.std.proofs.lemmas.Int.{ints}
-use mir.Syntax.{w64}
+use Rattle.std.proofs.Common.{Ok, Err, sym, subst}
 use Rattle.zir_tree.specs.declared.ends.Trap.{Trap}
-use Rattle.zir_expr.specs.Memory.{cell_at}
 use Rattle.zir_eval.specs.declared.evaluation.Stop.TheVariants.{Trap as ByTrap}
 use Rattle.zir_eval.specs.Ends.{Evaluates}
 use Rattle.zir_eval.proofs.Ending.{evaluates_done, evaluates_trapped, evaluates_spent}
@@ -11,8 +8,7 @@ use Rattle.zir_eval.proofs.evaluation.eval.Goals as goal
 pub returns-in-Ok : goal.returns-in-Ok
 returns-in-Ok c =
     let ran = rw c.as_slice.ensures at c.in-Ok.ensures in
-    let same : to_z w64 (of_z w64 c.cell.result) ≡ c.cell.result = omega (arith, ints) in
-    subst (λ x. Evaluates c.args.made.now c.args.base c.args.frame.now (Ok x) c.run.new.frame) (sym (same ∙ c.cell.ensures ∙ ap (λ i. cell_at i c.run.new.frame) c.index.ensures))
+    subst (λ x. Evaluates c.args.made.now c.args.base c.args.frame.now (Ok x) c.run.new.frame) (sym c.index.ensures)
     (evaluates_done c.args.made.now c.args.base c.args.frame.now c.run.new.frame ran)
 
 pub returns-in-Err-Trap : goal.returns-in-Err-Trap

@@ -2,4 +2,4 @@ use Rattle.zir_eval.proofs.Starting.{calls_mean}
 use Rattle.zir_eval.proofs.opening.functions_mean.Goals as goal
 
 pub returns : goal.returns
-returns c = λ core fine. calls_mean core fine
+returns c = calls_mean

@@ -40,10 +40,10 @@ turns-returns-in_err-body-clause-code t c =
 pub counts-returns-clause-code : goal.counts-returns-clause-code
 counts-returns-clause-code t c =
     λ name a n at before same f range.
-        let body = c.in_ok-body.ensures.code range.next in
-        made-For (scope_of c.args.self.now) name a n c.args.b.now at c.args.d c.max.result before c.args.steps.now.items c.push.new.self.items c.args.range c.in_ok-body.body f range
-        (subst (λ id. RowFits (with_index (scope_of c.args.self.now) c.args.d id) c.args.b.now (c.args.d + 1)) (sym same) body.0)
-        (subst (λ id. Blocked (with_index (scope_of c.args.self.now) c.args.d id) c.args.b.now (c.args.d + 1) c.in_ok-body.body) (sym same) body.1) c.in_ok-push.ensures.items c.max.ensures
+    let body = c.in_ok-body.ensures.code range.next in
+    made-For (scope_of c.args.self.now) name a n c.args.b.now at c.args.d c.max.result before c.args.steps.now.items c.push.new.self.items c.args.range c.in_ok-body.body f range
+    (subst (λ id. RowFits (with_index (scope_of c.args.self.now) c.args.d id) c.args.b.now (c.args.d + 1)) (sym same) body.0)
+    (subst (λ id. Blocked (with_index (scope_of c.args.self.now) c.args.d id) c.args.b.now (c.args.d + 1) c.in_ok-body.body) (sym same) body.1) c.in_ok-push.ensures.items c.max.ensures
 
 pub counts-returns-in_err-body-clause-code : goal.counts-returns-in_err-body-clause-code
 counts-returns-in_err-body-clause-code t c =

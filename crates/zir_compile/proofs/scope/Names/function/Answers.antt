@@ -1,5 +1,4 @@
-use Rattle.std.proofs.Common.{refl, subst}
-use Rattle.zir_code.specs.Bodies.{cells_of_all}
+use Rattle.std.proofs.Common.{refl}
 use Rattle.zir_code.specs.Scopes.{Scope}
 use Rattle.zir_code.specs.Program.{at_top}
 use Rattle.zir_compile.specs.Names.{signature_at}
