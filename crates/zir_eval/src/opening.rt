@@ -48,7 +48,12 @@ pub fn names_of(alloc: Global, core: &Core) -> Result<Option<Names>, AllocError>
         Err(Unmade::Large) => Ok(None),
         Err(Unmade::Memory(error)) => Err(error),
         Ok(tops) => {
-            let names = Names::of_functions(alloc, structs, tops, core.functions.as_slice())?;
+            let names = Names::of_functions(
+                alloc,
+                core.structs.as_slice(),
+                tops,
+                core.functions.as_slice(),
+            )?;
             Ok(Some(names))
         }
     }
