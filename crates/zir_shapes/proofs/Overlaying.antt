@@ -1,7 +1,7 @@
 -- Cells over others.
-use Rattle.std.specs.Prelude.{ℕ, zero, suc, ◌+◌, ◌-◌, ◌≤◌, min, ℤ, List, [], ◌∷◌, ◌++◌, ◌≡◌, refl, take, drop, length}
+use Rattle.std.specs.Prelude.{ℕ, ◌+◌, ◌≤◌, ℤ, List, ◌++◌, ◌≡◌, take, drop, length}
 use Rattle.std.proofs.Common.{sym, ap, ◌∙◌, arith, append_assoc}
-use Rattle.std.proofs.lemmas.List.{length-append, length-take, length-drop, take-append-le, drop-append-le, take_at, drop_at}
+use Rattle.std.proofs.lemmas.List.{length-append, length-take, length-drop, take-append-le, drop-append-le, drop_at}
 use Rattle.std.proofs.Math.Seq.{take-append_seam, take-append-add, drop-append-add}
 use Rattle.zir_shapes.specs.Offsets.{overlaid}
 use Rattle.zir_shapes.specs.Laws.{OverlaidBetween, OverlaidInside}
@@ -33,8 +33,8 @@ overlaid-inside before mid after o ys h =
     ∙ ap (λ zs. zs ++ (ys ++ (back ++ after))) (sym (take-append-add before (mid ++ after) o))
     ∙ ap (λ zs. take (length before + o) (before ++ (mid ++ after)) ++ (ys ++ zs))
     (sym (drop-append-le (o + length ys) mid after h)
-        ∙ sym (drop-append-add before (mid ++ after) (o + length ys))
-        ∙ ap (λ k. drop k (before ++ (mid ++ after))) (sym n))
+    ∙ sym (drop-append-add before (mid ++ after) (o + length ys))
+    ∙ ap (λ k. drop k (before ++ (mid ++ after))) (sym n))
 
 -- the same where the cells are given by their parts
 pub overlaid-at : (xs before mid after ys : List ℤ) (o : ℕ) → xs ≡ before ++ (mid ++ after) → length before ≡ o → length ys ≡ length mid →

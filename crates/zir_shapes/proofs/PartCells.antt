@@ -1,12 +1,12 @@
 -- Lists of values, and their cells.
-use Rattle.std.specs.Prelude.{ℕ, zero, suc, ◌+◌, ◌*◌, ◌<◌, ◌≤◌, ℤ, List, [], ◌∷◌, ◌++◌, ◌≡◌, refl, take, drop, length, Some, None, slice_get, slice_set, slice_index_or}
-use Rattle.std.proofs.Common.{sym, ap, ◌∙◌, arith, append_assoc}
-use Rattle.std.proofs.lemmas.List.{length-append, take-append-drop, drop-drop}
+use Rattle.std.specs.Prelude.{ℕ, ◌+◌, List, [], ◌∷◌, ◌++◌, ◌≡◌, refl, take, drop, slice_set, slice_index_or}
+use Rattle.std.proofs.Common.{sym, ap, ◌∙◌, append_assoc}
+use Rattle.std.proofs.lemmas.List.{take-append-drop, drop-drop}
 use denote.Hole.Carrier.{hidden}
 use Rattle.zir_tree.specs.declared.value.Val.{Val, Unit as UnitVal, List as Vals}
 use Rattle.zir_tree.specs.declared.value.Val.TheBlock.{shape-the_row-Val-0, hidden-the_row-Val-0}
 use Rattle.zir_cells.specs.Cells.{cells_of, row_cells}
-use Rattle.zir_meaning.specs.Values.{row_values, parts, Each}
+use Rattle.zir_meaning.specs.Values.{row_values, parts}
 use Rattle.zir_meaning.specs.Operators.{part_of, with_part}
 use Rattle.zir_shapes.specs.Offsets.{list_cells}
 use Rattle.zir_shapes.specs.Laws.{ListsStand}

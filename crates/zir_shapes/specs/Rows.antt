@@ -1,11 +1,12 @@
 -- Worked rows of offsets: a small struct whose layout is known, and cells over others, computed from the definitions.
 use Rattle.std.specs.Prelude.{◌≡◌, refl, pos, List, [], ◌∷◌, Some, None, codes}
-use Rattle.zir_tree.specs.declared.types.Base.TheVariants.{Bit, Int32, Complex16, Struct}
+use Rattle.zir_tree.specs.declared.types.Base.TheVariants.{Bit, Int32, Complex16}
 use Rattle.zir_tree.specs.declared.types.StructDef.{StructDef}
 use Rattle.zir_cells.specs.Layout.{layout_of}
 use Rattle.zir_shapes.specs.Offsets.{array_type, plain_type, struct_type, field_type, field_offset, overlaid, zeros}
 
--- struct Pulse = { at : int32; bits : arr[4] bit }, and struct Both = { size : complex16; left : arr[2] Pulse; last : bit }
+-- struct Pulse = { at : int32; bits : arr[4] bit }, and
+-- struct Both = { size : complex16; left : arr[2] Pulse; last : bit }
 abbrev structs : List StructDef
 structs =
     record {
@@ -46,7 +47,8 @@ pub no_struct_row : field_type structs 2 0 ≡ None
 no_struct_row = refl
 
 -- two cells over the second and the third
-pub overlaid_row : overlaid (pos 1 ∷ pos 2 ∷ pos 3 ∷ pos 4 ∷ []) 1 (pos 8 ∷ pos 9 ∷ []) ≡ pos 1 ∷ pos 8 ∷ pos 9 ∷ pos 4 ∷ []
+pub overlaid_row : overlaid (pos 1 ∷ pos 2 ∷ pos 3 ∷ pos 4 ∷ []) 1 (pos 8 ∷ pos 9 ∷ []) ≡
+    pos 1 ∷ pos 8 ∷ pos 9 ∷ pos 4 ∷ []
 overlaid_row = refl
 
 -- three cells of 0

@@ -1,5 +1,5 @@
 -- Shapes: which values a type can have, whatever the sizes of their numbers.
-use Rattle.std.specs.Prelude.{ℕ, zero, suc, ◌<◌, ℤ, List, [], ◌∷◌, ◌≡◌, length, nat_eq}
+use Rattle.std.specs.Prelude.{ℕ, suc, ◌<◌, ℤ, List, [], ◌∷◌, ◌≡◌, nat_eq}
 use Rattle.zir_tree.specs.declared.value.Val.{Val, Num, Pair, List as Vals}
 use Rattle.zir_tree.specs.declared.types.Base.{Base}
 use Rattle.zir_tree.specs.declared.types.Base.TheVariants.{Unit as UnitTy, Bit as BitTy, Bool as BoolTy, Int8, Int16, Int32, Int64, Complex16, Complex32, Struct as StructTy}
