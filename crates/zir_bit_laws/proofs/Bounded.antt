@@ -10,7 +10,7 @@ use Rattle.zir_bit_tree.specs.declared.tree.Expr.{Expr, Unit as UnitExpr, Bit, V
 use Rattle.zir_bit_tree.specs.declared.tree.Comp.{Comp, Take, Emit, Return, Block', Repeat', Pipe', end_of-Comp, more_of-Comp, Row_of-Member, end_of-Member, more_of-Member}
 use Rattle.zir_bit_meaning.specs.Trace.{State, Point, point}
 use Rattle.zir_bit_meaning.specs.Evaluation.{Eval, Got, Traps, RunsOut, ev, then_eval}
-use Rattle.zir_bit_meaning.specs.Composition.{limit, over, at_point, fresh}
+use Rattle.zir_bit_meaning.specs.Composition.{limit, over, at_point, waiting, fresh}
 use Rattle.zir_bit_meaning.specs.Component.{bind, assigns}
 use Rattle.zir_bit_laws.specs.Process.{Proc, Gives, Ends, Needs, end_proc, NextProc, then_proc, tick_proc, tick_proc_of, with_proc, turns_proc, holds, inside, pull, piped, proc, members_proc}
 
@@ -111,30 +111,31 @@ bounded-end (Trapped c) m u n t s1 s p h k e = bounded-inside n t s p _ e (λ le
 bounded-end Spent m u n t s1 s p h k e = bounded-inside n t s p _ e (λ le. tt)
 
 -- a left side that runs up to its next output
-bounded-pull : (ids : List ℕ) (l : Proc) (n t : ℕ) (s : State) (next : Val → Point → Proc → Proc) (s2 : State) → limit s ≡ n → Bounded n t l →
-    ((v : Val) (p : Point) (l' : Proc) → Bounded n p.ticks l' → Bounded n (p.ticks + s2.ticks) (next v p l')) → Bounded n (t + s2.ticks) (pull ids s next s2 l)
-bounded-pull ids (Gives o l) n t s next s2 e h k =
+bounded-pull : (ids : List ℕ) (d : ℕ) (l : Proc) (n t : ℕ) (s : State) (next : Val → Point → Proc → Proc) (s2 : State) → limit s ≡ n → Bounded n t l →
+    ((v : Val) (p : Point) (l' : Proc) → Bounded n p.ticks l' → Bounded n (p.ticks + s2.ticks) (next v p l')) → Bounded n (t + s2.ticks) (pull ids d s next s2 l)
+bounded-pull ids d (Gives o l) n t s next s2 e h k =
     bounded-earlier (next o.value o.at l) n (o.at.ticks + s2.ticks) (t + s2.ticks) (omega arith) (k o.value o.at l h.2)
-bounded-pull ids (Ends x s1) n t s next s2 e h k = bounded-end x n t n (t + s2.ticks) s1 s (over ids (point s1) (point s2)) h (λ le. omega arith) e
-bounded-pull ids (Needs s1 g) n t s next s2 e h k =
+bounded-pull ids d (Ends x s1) n t s next s2 e h k = 
+    bounded-end x n t n (t + s2.ticks) s1 s (over ids (point s1) (waiting d x (point s2))) h (λ le. omega arith) e
+bounded-pull ids d (Needs s1 g) n t s next s2 e h k =
     let p = over ids (point s1) (point s2) in
     bounded-inside n (t + s2.ticks) s p _ e
     (λ le. (
       omega arith,
       limit-at_point n s p e le,
-      λ x. bounded-earlier (pull ids s next s2 (g x)) n (s1.ticks + 1 + s2.ticks) (p.ticks + 1) (omega arith) (bounded-pull ids (g x) n (s1.ticks + 1) s next s2 e (h.2 x) k),
+      λ x. bounded-earlier (pull ids d s next s2 (g x)) n (s1.ticks + 1 + s2.ticks) (p.ticks + 1) (omega arith) (bounded-pull ids d (g x) n (s1.ticks + 1) s next s2 e (h.2 x) k),
     ))
 
 -- a composition, from the left side's last point and the right side's ticks
-pub bounded-piped : (ids : List ℕ) (r : Proc) (m n t : ℕ) (s : State) (base : Point) (l : Proc) → limit s ≡ n → Bounded m t r → Bounded n base.ticks l →
-    Bounded n (base.ticks + t) (piped ids s r base l)
-bounded-piped ids (Gives o r) m n t s base l e hr hl =
-    bounded-inside n (base.ticks + t) s (over ids base o.at) _ e (λ le. (omega arith, le, bounded-piped ids r m n o.at.ticks s base l e hr.2 hl))
-bounded-piped ids (Ends x s2) m n t s base l e hr hl = bounded-end x m t n (base.ticks + t) s2 s (over ids base (point s2)) hr (λ le. omega arith) e
-bounded-piped ids (Needs s2 f) m n t s base l e hr hl =
-    bounded-earlier (pull ids s (λ v p l'. piped ids s (f v) p l') s2 l) n (base.ticks + s2.ticks) (base.ticks + t) (omega arith)
-    (bounded-pull ids l n base.ticks s (λ v p l'. piped ids s (f v) p l') s2 e hl
-    (λ v p l' h. bounded-earlier (piped ids s (f v) p l') n (p.ticks + (s2.ticks + 1)) (p.ticks + s2.ticks) (omega arith) (bounded-piped ids (f v) m n (s2.ticks + 1) s p l' e (hr.2 v) h)))
+pub bounded-piped : (ids : List ℕ) (d : ℕ) (r : Proc) (m n t : ℕ) (s : State) (base : Point) (l : Proc) → limit s ≡ n → Bounded m t r → Bounded n base.ticks l →
+    Bounded n (base.ticks + t) (piped ids d s r base l)
+bounded-piped ids d (Gives o r) m n t s base l e hr hl =
+    bounded-inside n (base.ticks + t) s (over ids base o.at) _ e (λ le. (omega arith, le, bounded-piped ids d r m n o.at.ticks s base l e hr.2 hl))
+bounded-piped ids d (Ends x s2) m n t s base l e hr hl = bounded-end x m t n (base.ticks + t) s2 s (over ids base (point s2)) hr (λ le. omega arith) e
+bounded-piped ids d (Needs s2 f) m n t s base l e hr hl =
+    bounded-earlier (pull ids d s (λ v p l'. piped ids d s (f v) p l') s2 l) n (base.ticks + s2.ticks) (base.ticks + t) (omega arith)
+    (bounded-pull ids d l n base.ticks s (λ v p l'. piped ids d s (f v) p l') s2 e hl
+    (λ v p l' h. bounded-earlier (piped ids d s (f v) p l') n (p.ticks + (s2.ticks + 1)) (p.ticks + s2.ticks) (omega arith) (bounded-piped ids d (f v) m n (s2.ticks + 1) s p l' e (hr.2 v) h)))
 
 mutual
   -- the process of each component
@@ -148,8 +149,8 @@ mutual
   bounded-proc (Block' _ ms p) n s e = bounded-members ms n (length s.store) UnitVal s e
   bounded-proc (Repeat' _ (more_of-Comp c end_of-Comp) p) n s e = bounded-turns s.left n (proc c) (λ s' e'. bounded-proc c n s' e') s e
   bounded-proc (Pipe' _ (more_of-Comp a end_of-Comp) _ (more_of-Comp b end_of-Comp) p) n s e =
-      bounded-earlier (piped (assigns a) s (proc b (fresh s)) (point s) (proc a s)) n (s.ticks + 0) s.ticks (omega arith)
-      (bounded-piped (assigns a) (proc b (fresh s)) s.left n 0 s (point s) (proc a s) e (bounded-proc b s.left (fresh s) (omega arith)) (bounded-proc a n s e))
+      bounded-earlier (piped (assigns a) (length s.store) s (proc b (fresh s)) (point s) (proc a s)) n (s.ticks + 0) s.ticks (omega arith)
+      (bounded-piped (assigns a) (length s.store) (proc b (fresh s)) s.left n 0 s (point s) (proc a s) e (bounded-proc b s.left (fresh s) (omega arith)) (bounded-proc a n s e))
 
   -- and of the members of a block
   pub bounded-members : {m : _} (ms : Row_of-Member m) (n k : ℕ) (v : Val) (s : State) → limit s ≡ n → Bounded n s.ticks (members_proc ms k v s)

@@ -10,7 +10,7 @@ use Rattle.zir_bit_tree.specs.declared.tree.Expr.{Expr, Unit as UnitExpr, Bit, V
 use Rattle.zir_bit_tree.specs.declared.tree.Comp.{Comp, Take, Emit, Return, Block', Repeat', Pipe', end_of-Comp, more_of-Comp, Row_of-Member, end_of-Member, more_of-Member}
 use Rattle.zir_bit_meaning.specs.Trace.{State, Point, point, Out, Trace, gives}
 use Rattle.zir_bit_meaning.specs.Evaluation.{Eval, Got, Traps, RunsOut, ev, then_eval}
-use Rattle.zir_bit_meaning.specs.Composition.{limit, over, at_point, fresh}
+use Rattle.zir_bit_meaning.specs.Composition.{limit, over, at_point, waiting, fresh}
 use Rattle.zir_bit_meaning.specs.Component.{bind, assigns, tr}
 use Rattle.zir_bit_laws.specs.Budgets.{richer, Funds, Budgets}
 use Rattle.zir_bit_laws.specs.Process.{Proc, Gives, Ends, Needs, spent_proc, run, NextProc, then_proc, tick_proc, tick_proc_of, with_proc, turns_proc, holds, inside, pull, piped, proc, members_proc}
@@ -160,83 +160,84 @@ funded-value : (s : State) (n m : ℕ) (p : Point) → limit s ≡ n → p.ticks
 funded-value s n m p h le v = (ap (Ends (Value v)) (at_point-richer s n m p h le), omega arith)
 
 -- a left side that runs up to its next output
-funded-pull : (ids : List ℕ) (l l' : Proc) (s : State) (n m : ℕ) (next next' : Val → Point → Proc → Proc) (s2 : State) (k t : ℕ) →
+funded-pull : (ids : List ℕ) (d : ℕ) (l l' : Proc) (s : State) (n m : ℕ) (next next' : Val → Point → Proc → Proc) (s2 : State) (k t : ℕ) →
     limit s ≡ n → s.ticks ≤ t → Counts k t l' → Funded n m l l' →
     ((v : Val) (p : Point) (l l' : Proc) → s.ticks ≤ p.ticks → Counts p.taken p.ticks l' → Funded n m l l' → Funded n m (next v p l) (next' v p l')) →
     ((v : Val) (p : Point) (l' : Proc) → Counts p.taken p.ticks l' → Counts p.taken (p.ticks + s2.ticks) (next' v p l')) →
-    Funded n m (pull ids s next s2 l) (pull ids (richer m s) next' (richer m s2) l')
-funded-pull ids (Gives o l) (Gives o' l') s n m next next' s2 k t e le w h ih counts =
+    Funded n m (pull ids d s next s2 l) (pull ids d (richer m s) next' (richer m s2) l')
+funded-pull ids d (Gives o l) (Gives o' l') s n m next next' s2 k t e le w h ih counts =
     subst (λ o'. Funded n m (next o.value o.at l) (next' o'.value o'.at l')) (sym h.0)
     (let w' = subst (λ o. Counts k o.at.ticks l') h.0 w.2 in
     let tk : o.at.taken ≡ k = ap (λ o. o.at.taken) (sym h.0) ∙ w.0 in
     let same : o'.at.ticks ≡ o.at.ticks = ap (λ o. o.at.ticks) h.0 in
     ih o.value o.at l l' (omega arith) (subst (λ k. Counts k o.at.ticks l') (sym tk) w') h.1)
-funded-pull ids (Gives o l) (Ends e' s') s n m next next' s2 k t e le w h ih counts = absurd h
-funded-pull ids (Gives o l) (Needs s' f) s n m next next' s2 k t e le w h ih counts = absurd h
-funded-pull ids (Ends (Value v) s1) l' s n m next next' s2 k t e le w h ih counts =
-    subst (λ l'. Funded n m (pull ids s next s2 (Ends (Value v) s1)) (pull ids (richer m s) next' (richer m s2) l')) (sym h.0)
-    (funded-inside s n m (over ids (point s1) (point s2)) _ _ s1.taken e (λ lt. funded-value s n m (over ids (point s1) (point s2)) e lt v)
-    (counts-pull ids (Ends (Value v) (richer m s1)) (richer m s) next' (richer m s2) s1.taken s1.ticks (refl, omega arith) counts))
-funded-pull ids (Ends Starved s1) l' s n m next next' s2 k t e le w h ih counts = absurd h
-funded-pull ids (Ends (Trapped c) s1) l' s n m next next' s2 k t e le w h ih counts =
-    subst (λ l'. Funded n m (pull ids s next s2 (Ends (Trapped c) s1)) (pull ids (richer m s) next' (richer m s2) l')) (sym h)
-    (funded-inside s n m (over ids (point s1) (point s2)) _ _ s1.taken e
-    (λ lt. ap (Ends (Trapped c)) (at_point-richer s n m (over ids (point s1) (point s2)) e lt))
-    (counts-pull ids (Ends (Trapped c) (richer m s1)) (richer m s) next' (richer m s2) s1.taken s1.ticks (refl, omega arith) counts))
-funded-pull ids (Ends Spent s1) l' s n m next next' s2 k t e le w h ih counts =
+funded-pull ids d (Gives o l) (Ends e' s') s n m next next' s2 k t e le w h ih counts = absurd h
+funded-pull ids d (Gives o l) (Needs s' f) s n m next next' s2 k t e le w h ih counts = absurd h
+funded-pull ids d (Ends (Value v) s1) l' s n m next next' s2 k t e le w h ih counts =
+    subst (λ l'. Funded n m (pull ids d s next s2 (Ends (Value v) s1)) (pull ids d (richer m s) next' (richer m s2) l')) (sym h.0)
+    (funded-inside s n m (over ids (point s1) (waiting d (Value v) (point s2))) _ _ s1.taken e
+    (λ lt. funded-value s n m (over ids (point s1) (waiting d (Value v) (point s2))) e lt v)
+    (counts-pull ids d (Ends (Value v) (richer m s1)) (richer m s) next' (richer m s2) s1.taken s1.ticks (refl, omega arith) counts))
+funded-pull ids d (Ends Starved s1) l' s n m next next' s2 k t e le w h ih counts = absurd h
+funded-pull ids d (Ends (Trapped c) s1) l' s n m next next' s2 k t e le w h ih counts =
+    subst (λ l'. Funded n m (pull ids d s next s2 (Ends (Trapped c) s1)) (pull ids d (richer m s) next' (richer m s2) l')) (sym h)
+    (funded-inside s n m (over ids (point s1) (waiting d (Trapped c) (point s2))) _ _ s1.taken e
+    (λ lt. ap (Ends (Trapped c)) (at_point-richer s n m (over ids (point s1) (waiting d (Trapped c) (point s2))) e lt))
+    (counts-pull ids d (Ends (Trapped c) (richer m s1)) (richer m s) next' (richer m s2) s1.taken s1.ticks (refl, omega arith) counts))
+funded-pull ids d (Ends Spent s1) l' s n m next next' s2 k t e le w h ih counts =
     funded-spent (nat_le (s1.ticks + s2.ticks) (limit s)) n m _ (
       h.0,
-      counts-earlier (pull ids (richer m s) next' (richer m s2) l') h.0 (n + 1 + s2.ticks) (n + 1) (omega arith)
-          (counts-pull ids l' (richer m s) next' (richer m s2) h.0 (n + 1) h.1 counts),
+      counts-earlier (pull ids d (richer m s) next' (richer m s2) l') h.0 (n + 1 + s2.ticks) (n + 1) (omega arith)
+          (counts-pull ids d l' (richer m s) next' (richer m s2) h.0 (n + 1) h.1 counts),
     )
-funded-pull ids (Needs s1 g) (Needs s1' g') s n m next next' s2 k t e le w h ih counts =
-    subst (λ s1'. Funded n m (pull ids s next s2 (Needs s1 g)) (pull ids (richer m s) next' (richer m s2) (Needs s1' g'))) (sym h.0)
+funded-pull ids d (Needs s1 g) (Needs s1' g') s n m next next' s2 k t e le w h ih counts =
+    subst (λ s1'. Funded n m (pull ids d s next s2 (Needs s1 g)) (pull ids d (richer m s) next' (richer m s2) (Needs s1' g'))) (sym h.0)
     (let tk : s1.taken ≡ k = ap (λ s. s.taken) (sym h.0) ∙ w.0 in
     let same : s1'.ticks ≡ s1.ticks = ap (λ s. s.ticks) h.0 in
     let w2 = (λ (x : Val). subst (λ t. Counts (k + 1) t (g' x)) same (w.2 x)) in
     funded-inside s n m (over ids (point s1) (point s2)) _ _ k e
-    (λ lt. (at_point-richer s n m (over ids (point s1) (point s2)) e lt, λ x. funded-pull ids (g x) (g' x) s n m next next' s2 (k + 1) s1.ticks e (omega arith) (w2 x) (h.1 x) ih counts))
-    (counts-pull ids (Needs (richer m s1) g') (richer m s) next' (richer m s2) k s1.ticks (tk, omega arith, w2) counts))
-funded-pull ids (Needs s1 g) (Gives o l') s n m next next' s2 k t e le w h ih counts = absurd h
-funded-pull ids (Needs s1 g) (Ends e' s') s n m next next' s2 k t e le w h ih counts = absurd h
+    (λ lt. (at_point-richer s n m (over ids (point s1) (point s2)) e lt, λ x. funded-pull ids d (g x) (g' x) s n m next next' s2 (k + 1) s1.ticks e (omega arith) (w2 x) (h.1 x) ih counts))
+    (counts-pull ids d (Needs (richer m s1) g') (richer m s) next' (richer m s2) k s1.ticks (tk, omega arith, w2) counts))
+funded-pull ids d (Needs s1 g) (Gives o l') s n m next next' s2 k t e le w h ih counts = absurd h
+funded-pull ids d (Needs s1 g) (Ends e' s') s n m next next' s2 k t e le w h ih counts = absurd h
 
 -- a composition, whose right side has a budget of its own, the ticks left at its beginning
-funded-piped : (ids : List ℕ) (r r' : Proc) (s : State) (n nb m j t2 : ℕ) (base : Point) (l l' : Proc) →
+funded-piped : (ids : List ℕ) (d : ℕ) (r r' : Proc) (s : State) (n nb m j t2 : ℕ) (base : Point) (l l' : Proc) →
     limit s ≡ n → nb ≡ s.left → s.ticks ≤ base.ticks → Counts j t2 r' → Funded nb m r r' → Counts base.taken base.ticks l' → Funded n m l l' →
-    Funded n m (piped ids s r base l) (piped ids (richer m s) r' base l')
-funded-piped ids (Gives o r) (Gives o' r') s n nb m j t2 base l l' e b le w h wl hl =
-    subst (λ o'. Funded n m (piped ids s (Gives o r) base l) (piped ids (richer m s) (Gives o' r') base l')) (sym h.0)
+    Funded n m (piped ids d s r base l) (piped ids d (richer m s) r' base l')
+funded-piped ids d (Gives o r) (Gives o' r') s n nb m j t2 base l l' e b le w h wl hl =
+    subst (λ o'. Funded n m (piped ids d s (Gives o r) base l) (piped ids d (richer m s) (Gives o' r') base l')) (sym h.0)
     (let w2 = subst (λ o. Counts j o.at.ticks r') h.0 w.2 in
     let tk : o.at.taken ≡ j = ap (λ o. o.at.taken) (sym h.0) ∙ w.0 in
     funded-inside s n m (over ids base o.at) _ _ base.taken e
-    (λ lt. (refl, funded-piped ids r r' s n nb m j o.at.ticks base l l' e b le w2 h.1 wl hl))
-    (counts-piped ids (Gives o r') (richer m s) j o.at.ticks base l' (tk, omega arith, w2) wl))
-funded-piped ids (Gives o r) (Ends e' s') s n nb m j t2 base l l' e b le w h wl hl = absurd h
-funded-piped ids (Gives o r) (Needs s' f) s n nb m j t2 base l l' e b le w h wl hl = absurd h
-funded-piped ids (Ends (Value v) s2) r' s n nb m j t2 base l l' e b le w h wl hl =
-    subst (λ r'. Funded n m (piped ids s (Ends (Value v) s2) base l) (piped ids (richer m s) r' base l')) (sym h.0)
+    (λ lt. (refl, funded-piped ids d r r' s n nb m j o.at.ticks base l l' e b le w2 h.1 wl hl))
+    (counts-piped ids d (Gives o r') (richer m s) j o.at.ticks base l' (tk, omega arith, w2) wl))
+funded-piped ids d (Gives o r) (Ends e' s') s n nb m j t2 base l l' e b le w h wl hl = absurd h
+funded-piped ids d (Gives o r) (Needs s' f) s n nb m j t2 base l l' e b le w h wl hl = absurd h
+funded-piped ids d (Ends (Value v) s2) r' s n nb m j t2 base l l' e b le w h wl hl =
+    subst (λ r'. Funded n m (piped ids d s (Ends (Value v) s2) base l) (piped ids d (richer m s) r' base l')) (sym h.0)
     (funded-inside s n m (over ids base (point s2)) _ _ base.taken e (λ lt. funded-value s n m (over ids base (point s2)) e lt v)
-    (counts-piped ids (Ends (Value v) (richer m s2)) (richer m s) s2.taken s2.ticks base l' (refl, omega arith) wl))
-funded-piped ids (Ends Starved s2) r' s n nb m j t2 base l l' e b le w h wl hl = absurd h
-funded-piped ids (Ends (Trapped c) s2) r' s n nb m j t2 base l l' e b le w h wl hl =
-    subst (λ r'. Funded n m (piped ids s (Ends (Trapped c) s2) base l) (piped ids (richer m s) r' base l')) (sym h)
+    (counts-piped ids d (Ends (Value v) (richer m s2)) (richer m s) s2.taken s2.ticks base l' (refl, omega arith) wl))
+funded-piped ids d (Ends Starved s2) r' s n nb m j t2 base l l' e b le w h wl hl = absurd h
+funded-piped ids d (Ends (Trapped c) s2) r' s n nb m j t2 base l l' e b le w h wl hl =
+    subst (λ r'. Funded n m (piped ids d s (Ends (Trapped c) s2) base l) (piped ids d (richer m s) r' base l')) (sym h)
     (funded-inside s n m (over ids base (point s2)) _ _ base.taken e (λ lt. ap (Ends (Trapped c)) (at_point-richer s n m (over ids base (point s2)) e lt))
-    (counts-piped ids (Ends (Trapped c) (richer m s2)) (richer m s) s2.taken s2.ticks base l' (refl, omega arith) wl))
-funded-piped ids (Ends Spent s2) r' s n nb m j t2 base l l' e b le w h wl hl =
+    (counts-piped ids d (Ends (Trapped c) (richer m s2)) (richer m s) s2.taken s2.ticks base l' (refl, omega arith) wl))
+funded-piped ids d (Ends Spent s2) r' s n nb m j t2 base l l' e b le w h wl hl =
     funded-spent (nat_le (base.ticks + s2.ticks) (limit s)) n m _ (
       base.taken,
-      counts-earlier (piped ids (richer m s) r' base l') base.taken (base.ticks + (nb + 1)) (n + 1) (omega arith)
-          (counts-piped ids r' (richer m s) h.0 (nb + 1) base l' h.1 wl),
+      counts-earlier (piped ids d (richer m s) r' base l') base.taken (base.ticks + (nb + 1)) (n + 1) (omega arith)
+          (counts-piped ids d r' (richer m s) h.0 (nb + 1) base l' h.1 wl),
     )
-funded-piped ids (Needs s2 f) (Needs s2' g) s n nb m j t2 base l l' e b le w h wl hl =
-    subst (λ s2'. Funded n m (piped ids s (Needs s2 f) base l) (piped ids (richer m s) (Needs s2' g) base l')) (sym h.0)
+funded-piped ids d (Needs s2 f) (Needs s2' g) s n nb m j t2 base l l' e b le w h wl hl =
+    subst (λ s2'. Funded n m (piped ids d s (Needs s2 f) base l) (piped ids d (richer m s) (Needs s2' g) base l')) (sym h.0)
     (let same : s2'.ticks ≡ s2.ticks = ap (λ s. s.ticks) h.0 in
     let w2 = (λ (x : Val). subst (λ t. Counts (j + 1) t (g x)) same (w.2 x)) in
-    funded-pull ids l l' s n m (λ v p l. piped ids s (f v) p l) (λ v p l. piped ids (richer m s) (g v) p l) s2 base.taken base.ticks e le wl hl
-    (λ v p q q' lt wq hq. funded-piped ids (f v) (g v) s n nb m (j + 1) s2.ticks p q q' e b lt (w2 v) (h.1 v) wq hq)
-    (λ v p q' wq. counts-piped ids (g v) (richer m s) (j + 1) s2.ticks p q' (w2 v) wq))
-funded-piped ids (Needs s2 f) (Gives o r') s n nb m j t2 base l l' e b le w h wl hl = absurd h
-funded-piped ids (Needs s2 f) (Ends e' s') s n nb m j t2 base l l' e b le w h wl hl = absurd h
+    funded-pull ids d l l' s n m (λ v p l. piped ids d s (f v) p l) (λ v p l. piped ids d (richer m s) (g v) p l) s2 base.taken base.ticks e le wl hl
+    (λ v p q q' lt wq hq. funded-piped ids d (f v) (g v) s n nb m (j + 1) s2.ticks p q q' e b lt (w2 v) (h.1 v) wq hq)
+    (λ v p q' wq. counts-piped ids d (g v) (richer m s) (j + 1) s2.ticks p q' (w2 v) wq))
+funded-piped ids d (Needs s2 f) (Gives o r') s n nb m j t2 base l l' e b le w h wl hl = absurd h
+funded-piped ids d (Needs s2 f) (Ends e' s') s n nb m j t2 base l l' e b le w h wl hl = absurd h
 
 mutual
   -- the process of each component
@@ -253,7 +254,7 @@ mutual
   funded-proc (Repeat' _ (more_of-Comp c end_of-Comp) p) n m s e =
       funded-turns s.left n m (proc c) (λ s' e'. funded-proc c n m s' e') (counts-proc c) s (omega arith) e
   funded-proc (Pipe' _ (more_of-Comp a end_of-Comp) _ (more_of-Comp b end_of-Comp) p) n m s e =
-      funded-piped (assigns a) (proc b (fresh s)) (proc b (fresh (richer m s))) s n s.left m 0 0 (point s) (proc a s) (proc a (richer m s)) e refl (omega arith)
+      funded-piped (assigns a) (length s.store) (proc b (fresh s)) (proc b (fresh (richer m s))) s n s.left m 0 0 (point s) (proc a s) (proc a (richer m s)) e refl (omega arith)
       (counts-proc b (fresh (richer m s))) (funded-proc b s.left m (fresh s) (omega arith)) (counts-proc a (richer m s)) (funded-proc a n m s e)
 
   -- and of the members of a block

@@ -8,7 +8,7 @@ use Rattle.zir_bit_tree.specs.declared.tree.Expr.{Expr, Unit as UnitExpr, Bit, V
 use Rattle.zir_bit_tree.specs.declared.tree.Comp.{Comp, Take, Emit, Return, Block', Repeat', Pipe', end_of-Comp, more_of-Comp, Row_of-Member, end_of-Member, more_of-Member}
 use Rattle.zir_bit_meaning.specs.Trace.{State, Point, point}
 use Rattle.zir_bit_meaning.specs.Evaluation.{Eval, Got, Traps, RunsOut, ev, then_eval}
-use Rattle.zir_bit_meaning.specs.Composition.{limit, over, at_point, fresh}
+use Rattle.zir_bit_meaning.specs.Composition.{limit, over, at_point, waiting, fresh}
 use Rattle.zir_bit_meaning.specs.Component.{bind, assigns}
 use Rattle.zir_bit_laws.specs.Process.{Proc, Gives, Ends, Needs, spent_proc, NextProc, then_proc, tick_proc, tick_proc_of, with_proc, turns_proc, holds, pull, piped, proc, members_proc}
 
@@ -100,37 +100,39 @@ counts-holds true p k t h = h
 counts-holds false p k t h = tt
 
 -- a left side that runs up to its next output
-pub counts-pull : (ids : List ℕ) (l : Proc) (s : State) (next : Val → Point → Proc → Proc) (s2 : State) (k t : ℕ) →
+pub counts-pull : (ids : List ℕ) (d : ℕ) (l : Proc) (s : State) (next : Val → Point → Proc → Proc) (s2 : State) (k t : ℕ) →
     Counts k t l → ((v : Val) (p : Point) (l' : Proc) → Counts p.taken p.ticks l' → Counts p.taken (p.ticks + s2.ticks) (next v p l')) →
-    Counts k (t + s2.ticks) (pull ids s next s2 l)
-counts-pull ids (Gives o l) s next s2 k t h n =
+    Counts k (t + s2.ticks) (pull ids d s next s2 l)
+counts-pull ids d (Gives o l) s next s2 k t h n =
     counts-earlier (next o.value o.at l) k (o.at.ticks + s2.ticks) (t + s2.ticks) (omega arith)
     (subst (λ k. Counts k (o.at.ticks + s2.ticks) (next o.value o.at l)) h.0 (n o.value o.at l (subst (λ k. Counts k o.at.ticks l) (sym h.0) h.2)))
-counts-pull ids (Ends (Value v) s1) s next s2 k t h n =
-    counts-holds (nat_le (s1.ticks + s2.ticks) (limit s)) (Ends (Value v) (at_point s (over ids (point s1) (point s2)))) k (t + s2.ticks) (h.0, omega arith)
-counts-pull ids (Ends Starved s1) s next s2 k t h n = absurd h
-counts-pull ids (Ends (Trapped c) s1) s next s2 k t h n =
-    counts-holds (nat_le (s1.ticks + s2.ticks) (limit s)) (Ends (Trapped c) (at_point s (over ids (point s1) (point s2)))) k (t + s2.ticks) (h.0, omega arith)
-counts-pull ids (Ends Spent s1) s next s2 k t h n = counts-holds (nat_le (s1.ticks + s2.ticks) (limit s)) spent_proc k (t + s2.ticks) tt
-counts-pull ids (Needs s1 g) s next s2 k t h n =
-    counts-holds (nat_le (s1.ticks + s2.ticks) (limit s)) (Needs (at_point s (over ids (point s1) (point s2))) (λ x. pull ids s next s2 (g x))) k (t + s2.ticks)
-    (h.0, omega arith, λ x. counts-pull ids (g x) s next s2 (k + 1) s1.ticks (h.2 x) n)
+counts-pull ids d (Ends (Value v) s1) s next s2 k t h n =
+    counts-holds (nat_le (s1.ticks + s2.ticks) (limit s)) (Ends (Value v) (at_point s (over ids (point s1) (waiting d (Value v) (point s2))))) k (t + s2.ticks)
+    (h.0, omega arith)
+counts-pull ids d (Ends Starved s1) s next s2 k t h n = absurd h
+counts-pull ids d (Ends (Trapped c) s1) s next s2 k t h n =
+    counts-holds (nat_le (s1.ticks + s2.ticks) (limit s)) (Ends (Trapped c) (at_point s (over ids (point s1) (waiting d (Trapped c) (point s2))))) k (t + s2.ticks)
+    (h.0, omega arith)
+counts-pull ids d (Ends Spent s1) s next s2 k t h n = counts-holds (nat_le (s1.ticks + s2.ticks) (limit s)) spent_proc k (t + s2.ticks) tt
+counts-pull ids d (Needs s1 g) s next s2 k t h n =
+    counts-holds (nat_le (s1.ticks + s2.ticks) (limit s)) (Needs (at_point s (over ids (point s1) (point s2))) (λ x. pull ids d s next s2 (g x))) k (t + s2.ticks)
+    (h.0, omega arith, λ x. counts-pull ids d (g x) s next s2 (k + 1) s1.ticks (h.2 x) n)
 
 -- a composition, from the left side's last point and the right side's ticks
-pub counts-piped : (ids : List ℕ) (r : Proc) (s : State) (j t2 : ℕ) (base : Point) (l : Proc) →
-    Counts j t2 r → Counts base.taken base.ticks l → Counts base.taken (base.ticks + t2) (piped ids s r base l)
-counts-piped ids (Gives o r) s j t2 base l hr hl =
-    counts-holds (nat_le (base.ticks + o.at.ticks) (limit s)) (Gives (record { value = o.value; at = over ids base o.at }) (piped ids s r base l)) base.taken (base.ticks + t2)
-    (refl, omega arith, counts-piped ids r s j o.at.ticks base l hr.2 hl)
-counts-piped ids (Ends (Value v) s2) s j t2 base l hr hl =
+pub counts-piped : (ids : List ℕ) (d : ℕ) (r : Proc) (s : State) (j t2 : ℕ) (base : Point) (l : Proc) →
+    Counts j t2 r → Counts base.taken base.ticks l → Counts base.taken (base.ticks + t2) (piped ids d s r base l)
+counts-piped ids d (Gives o r) s j t2 base l hr hl =
+    counts-holds (nat_le (base.ticks + o.at.ticks) (limit s)) (Gives (record { value = o.value; at = over ids base o.at }) (piped ids d s r base l)) base.taken (base.ticks + t2)
+    (refl, omega arith, counts-piped ids d r s j o.at.ticks base l hr.2 hl)
+counts-piped ids d (Ends (Value v) s2) s j t2 base l hr hl =
     counts-holds (nat_le (base.ticks + s2.ticks) (limit s)) (Ends (Value v) (at_point s (over ids base (point s2)))) base.taken (base.ticks + t2) (refl, omega arith)
-counts-piped ids (Ends Starved s2) s j t2 base l hr hl = absurd hr
-counts-piped ids (Ends (Trapped c) s2) s j t2 base l hr hl =
+counts-piped ids d (Ends Starved s2) s j t2 base l hr hl = absurd hr
+counts-piped ids d (Ends (Trapped c) s2) s j t2 base l hr hl =
     counts-holds (nat_le (base.ticks + s2.ticks) (limit s)) (Ends (Trapped c) (at_point s (over ids base (point s2)))) base.taken (base.ticks + t2) (refl, omega arith)
-counts-piped ids (Ends Spent s2) s j t2 base l hr hl = counts-holds (nat_le (base.ticks + s2.ticks) (limit s)) spent_proc base.taken (base.ticks + t2) tt
-counts-piped ids (Needs s2 f) s j t2 base l hr hl =
-    counts-earlier (pull ids s (λ v p l'. piped ids s (f v) p l') s2 l) base.taken (base.ticks + s2.ticks) (base.ticks + t2) (omega arith)
-    (counts-pull ids l s (λ v p l'. piped ids s (f v) p l') s2 base.taken base.ticks hl (λ v p l' h. counts-piped ids (f v) s (j + 1) s2.ticks p l' (hr.2 v) h))
+counts-piped ids d (Ends Spent s2) s j t2 base l hr hl = counts-holds (nat_le (base.ticks + s2.ticks) (limit s)) spent_proc base.taken (base.ticks + t2) tt
+counts-piped ids d (Needs s2 f) s j t2 base l hr hl =
+    counts-earlier (pull ids d s (λ v p l'. piped ids d s (f v) p l') s2 l) base.taken (base.ticks + s2.ticks) (base.ticks + t2) (omega arith)
+    (counts-pull ids d l s (λ v p l'. piped ids d s (f v) p l') s2 base.taken base.ticks hl (λ v p l' h. counts-piped ids d (f v) s (j + 1) s2.ticks p l' (hr.2 v) h))
 
 mutual
   -- the process of each component
@@ -141,8 +143,8 @@ mutual
   counts-proc (Block' _ ms p) s = counts-members ms (length s.store) UnitVal s
   counts-proc (Repeat' _ (more_of-Comp c end_of-Comp) p) s = counts-turns s.left (proc c) (λ s'. counts-proc c s') s
   counts-proc (Pipe' _ (more_of-Comp a end_of-Comp) _ (more_of-Comp b end_of-Comp) p) s =
-      counts-earlier (piped (assigns a) s (proc b (fresh s)) (point s) (proc a s)) s.taken (s.ticks + 0) s.ticks (omega arith)
-      (counts-piped (assigns a) (proc b (fresh s)) s 0 0 (point s) (proc a s) (counts-proc b (fresh s)) (counts-proc a s))
+      counts-earlier (piped (assigns a) (length s.store) s (proc b (fresh s)) (point s) (proc a s)) s.taken (s.ticks + 0) s.ticks (omega arith)
+      (counts-piped (assigns a) (length s.store) (proc b (fresh s)) s 0 0 (point s) (proc a s) (counts-proc b (fresh s)) (counts-proc a s))
 
   -- and of the members of a block
   pub counts-members : {m : _} (ms : Row_of-Member m) (n : ℕ) (v : Val) (s : State) → Counts s.taken s.ticks (members_proc ms n v s)

@@ -44,7 +44,7 @@ unfolding shape-the_row-Comp-1 hidden-the_row-Comp-1 hidden
 repeat-turns c p s = refl
 
 -- the process of a composition is that of its right side over that of its left side
-pub pipe-piped : (a b : Comp) (p : Place) (s : State) → proc (Pipe a b p) s ≡ piped (assigns a) s (proc b (fresh s)) (point s) (proc a s)
+pub pipe-piped : (a b : Comp) (p : Place) (s : State) → proc (Pipe a b p) s ≡ piped (assigns a) (length s.store) s (proc b (fresh s)) (point s) (proc a s)
 unfolding shape-the_row-Comp-1 hidden-the_row-Comp-1 hidden
 pipe-piped a b p s = refl
 

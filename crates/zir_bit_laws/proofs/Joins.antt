@@ -1,12 +1,12 @@
 -- A run of two composed processes is the composition of their runs.
-use Rattle.std.specs.Prelude.{ℕ, zero, suc, ◌+◌, ◌-◌, ◌≤◌, ◌<◌, List, [], ◌∷◌, ◌≡◌, refl, drop, Bool, true, false, nat_le}
+use Rattle.std.specs.Prelude.{ℕ, zero, suc, ◌+◌, ◌-◌, ◌≤◌, ◌<◌, List, [], ◌∷◌, ◌≡◌, refl, drop, Bool, true, false, nat_le, length}
 use Rattle.std.proofs.Common.{sym, ap, ◌∙◌, arith, subst}
 use Rattle.std.proofs.lemmas.Bool.{leb-false}
 use Rattle.zir_bit_tree.specs.declared.value.Val.{Val}
 use Rattle.zir_bit_tree.specs.declared.ends.End.{End}
 use Rattle.zir_bit_tree.specs.declared.ends.End.TheVariants.{Value, Starved, Trap as Trapped, Spent}
 use Rattle.zir_bit_meaning.specs.Trace.{State, Point, point, Out, Trace, nowhere, spent, ends, gives}
-use Rattle.zir_bit_meaning.specs.Composition.{limit, point_at, over, at_point, within, joined, compose, values}
+use Rattle.zir_bit_meaning.specs.Composition.{limit, point_at, over, at_point, waiting, within, joined, compose, values}
 use Rattle.zir_bit_laws.specs.Prefixes.{OutsFrom, EndFrom}
 use Rattle.zir_bit_laws.specs.Process.{Proc, Gives, Ends, Needs, run, holds, pull, piped}
 use Rattle.zir_bit_laws.proofs.Counts.{Counts}
@@ -21,7 +21,8 @@ spent-both false false s xs = refl
 
 -- a starved right side whose left side ends past the limit
 starved : (ids : List ℕ) (s : State) (input : List Val) (s2 : State) (t : ℕ) (e : End) (last : State) → EndFrom t e last → limit s < t + s2.ticks →
-    within (nat_le (last.ticks + s2.ticks) (limit s)) (ends e (at_point s (over ids (point last) (point s2))) (drop (last.taken - s.taken) input)) ≡ spent
+    within (nat_le (last.ticks + s2.ticks) (limit s))
+    (ends e (at_point s (over ids (point last) (waiting (length s.store) e (point s2)))) (drop (last.taken - s.taken) input)) ≡ spent
 starved ids s input s2 t (Value v) last le lim = past-limit (limit s) _ _ (omega arith)
 starved ids s input s2 t Starved last le lim = past-limit (limit s) _ _ (omega arith)
 starved ids s input s2 t (Trapped c) last le lim = past-limit (limit s) _ _ (omega arith)
@@ -90,7 +91,7 @@ abbrev Joins : List ℕ → State → List Val → List Out → Proc → ℕ →
 Joins ids s input all r j t2 =
     Counts j t2 r → (l : Proc) (base : Point) (xs : List Val) → Counts base.taken base.ticks l → s.taken ≤ base.taken → drop (base.taken - s.taken) input ≡ xs →
     Stands s all j base (run l xs).outs →
-    run (piped ids s r base l) xs ≡ joined ids s input all (run l xs).end (run l xs).last (run r (values (run l xs).outs))
+    run (piped ids (length s.store) s r base l) xs ≡ joined ids s input all (run l xs).end (run l xs).last (run r (values (run l xs).outs))
 
 -- a right side that needs an element, where the left side's next point is past the limit
 needs-past : (ids : List ℕ) (s : State) (input : List Val) (all : List Out) (e1 : End) (last : State) (s2 : State) (f : Val → Proc) (j t : ℕ) (base : Point) →
@@ -112,22 +113,26 @@ asks s s1 s2 t t' e past false h = sym (past (leb-false (s1.ticks + s2.ticks) (l
 pull-run : (ids : List ℕ) (s : State) (input : List Val) (all : List Out) (s2 : State) (f : Val → Proc) (j : ℕ) →
     ((v : Val) → Joins ids s input all (f v) (j + 1) s2.ticks) → ((v : Val) → Counts (j + 1) s2.ticks (f v)) →
     (l : Proc) (base : Point) (k t1 : ℕ) (xs : List Val) → Counts k t1 l → s.taken ≤ k → drop (k - s.taken) input ≡ xs → Stands s all j base (run l xs).outs →
-    run (pull ids s (λ v p l'. piped ids s (f v) p l') s2 l) xs ≡ joined ids s input all (run l xs).end (run l xs).last (run (Needs s2 f) (values (run l xs).outs))
+    run (pull ids (length s.store) s (λ v p l'. piped ids (length s.store) s (f v) p l') s2 l) xs ≡ joined ids s input all (run l xs).end (run l xs).last (run (Needs s2 f) (values (run l xs).outs))
 pull-run ids s input all s2 f j ih hf (Gives o l) base k t1 xs h le d st =
     ih o.value (hf o.value) l o.at xs (subst (λ k. Counts k o.at.ticks l) (sym h.0) h.2) (omega arith)
     (subst (λ k. drop (k - s.taken) input ≡ xs) (sym h.0) d) (stands-next s all j base o (run l xs).outs st)
 pull-run ids s input all s2 f j ih hf (Ends (Value v) s1) base k t1 xs h le d st =
-    run-holds _ _ xs ∙ ends-over ids s input xs (Value v) (point s2) (point s1) (point s1) refl (subst (λ k. drop (k - s.taken) input ≡ xs) (sym h.0) d)
+    run-holds _ _ xs
+    ∙ ends-over ids s input xs (Value v) (waiting (length s.store) (Value v) (point s2)) (point s1) (point s1) refl
+    (subst (λ k. drop (k - s.taken) input ≡ xs) (sym h.0) d)
 pull-run ids s input all s2 f j ih hf (Ends Starved s1) base k t1 xs h le d st = absurd h
 pull-run ids s input all s2 f j ih hf (Ends (Trapped c) s1) base k t1 xs h le d st =
-    run-holds _ _ xs ∙ ends-over ids s input xs (Trapped c) (point s2) (point s1) (point s1) refl (subst (λ k. drop (k - s.taken) input ≡ xs) (sym h.0) d)
+    run-holds _ _ xs
+    ∙ ends-over ids s input xs (Trapped c) (waiting (length s.store) (Trapped c) (point s2)) (point s1) (point s1) refl
+    (subst (λ k. drop (k - s.taken) input ≡ xs) (sym h.0) d)
 pull-run ids s input all s2 f j ih hf (Ends Spent s1) base k t1 xs h le d st =
     spent-both (nat_le (s1.ticks + s2.ticks) (limit s)) (nat_le (0 + s2.ticks) (limit s)) nowhere xs
 pull-run ids s input all s2 f j ih hf (Needs s1 g) base k t1 [] h le d st =
     run-holds _ _ [] ∙ ends-over ids s input [] Starved (point s2) (point s1) (point s1) refl (subst (λ k. drop (k - s.taken) input ≡ []) (sym h.0) d)
 pull-run ids s input all s2 f j ih hf (Needs s1 g) base k t1 (x ∷ xs) h le d st =
     run-holds (nat_le (s1.ticks + s2.ticks) (limit s)) _ (x ∷ xs)
-    ∙ asks s s1 s2 (run (pull ids s (λ v p l'. piped ids s (f v) p l') s2 (g x)) xs) (joined ids s input all (run (g x) xs).end (run (g x) xs).last (run (Needs s2 f) (values (run (g x) xs).outs)))
+    ∙ asks s s1 s2 (run (pull ids (length s.store) s (λ v p l'. piped ids (length s.store) s (f v) p l') s2 (g x)) xs) (joined ids s input all (run (g x) xs).end (run (g x) xs).last (run (Needs s2 f) (values (run (g x) xs).outs)))
     (pull-run ids s input all s2 f j ih hf (g x) base (k + 1) s1.ticks xs (h.2 x) (omega arith) (drop-next s input k x xs le d) st)
     (λ lim. needs-past ids s input all (run (g x) xs).end (run (g x) xs).last s2 f j s1.ticks base hf (run (g x) xs).outs
     (late-outs (g x) (k + 1) s1.ticks (h.2 x) xs) st (late-end (g x) (k + 1) s1.ticks (h.2 x) xs) lim)
@@ -153,7 +158,7 @@ joins-run ids s input all (Needs s2 f) j t2 h l base xs hl le d st =
 
 -- a run of the composed processes is the composition of their traces
 pub piped-run : (ids : List ℕ) (s : State) (r l : Proc) → Counts 0 0 r → Counts s.taken s.ticks l → (xs : List Val) →
-    run (piped ids s r (point s) l) xs ≡ compose ids s xs (run l xs) (run r (values (run l xs).outs))
+    run (piped ids (length s.store) s r (point s) l) xs ≡ compose ids s xs (run l xs) (run r (values (run l xs).outs))
 piped-run ids s r l hr hl xs =
     let z : s.taken - s.taken ≡ 0 = omega arith in
     joins-run ids s xs (run l xs).outs r 0 0 hr l (point s) xs hl (omega arith) (ap (λ n. drop n xs) z)

@@ -16,20 +16,20 @@ fed_then (Some x) None p q next h = (h.0, (λ x. then_proc (h.1 x) next), ap (λ
 fed_then None (Some y) p q next h = absurd h
 
 -- a step of the left side, while the right side needs an element
-pub fed_left : (i j : Option Val) (ids : List ℕ) (s s2 : State) (f : Val → Proc) (b : Point) (r l l' : Proc) → r ≡ Needs s2 f →
-    ((s1 : State) (g : Val → Proc) → l ≡ Needs s1 g → s1.ticks + s2.ticks ≤ limit s) → Fed i j l l' → Fed i j (piped ids s r b l) (piped ids s r b l')
-fed_left None None ids s s2 f b r l l' e le h = ap (piped ids s r b) h
-fed_left (Some x) (Some y) ids s s2 f b r l l' e le h = (h.0, ap (piped ids s r b) h.1)
-fed_left (Some x) None ids s s2 f b r l l' e le h =
+pub fed_left : (i j : Option Val) (ids : List ℕ) (d : ℕ) (s s2 : State) (f : Val → Proc) (b : Point) (r l l' : Proc) → r ≡ Needs s2 f →
+    ((s1 : State) (g : Val → Proc) → l ≡ Needs s1 g → s1.ticks + s2.ticks ≤ limit s) → Fed i j l l' → Fed i j (piped ids d s r b l) (piped ids d s r b l')
+fed_left None None ids d s s2 f b r l l' e le h = ap (piped ids d s r b) h
+fed_left (Some x) (Some y) ids d s s2 f b r l l' e le h = (h.0, ap (piped ids d s r b) h.1)
+fed_left (Some x) None ids d s s2 f b r l l' e le h =
     let s1 = h.0 in let g = h.1 in (
       at_point s (over ids (point s1) (point s2)),
-      (λ x. pull ids s (λ v p l. piped ids s (f v) p l) s2 (g x)),
-      ap (λ l. piped ids s r b l) h.2 ∙ ap (λ r. piped ids s r b (Needs s1 g)) e ∙ holds-within (s1.ticks + s2.ticks) (limit s) _ (le s1 g h.2),
-      ap (λ l. piped ids s r b l) h.3 ∙ ap (λ r. piped ids s r b (g x)) e,
+      (λ x. pull ids d s (λ v p l. piped ids d s (f v) p l) s2 (g x)),
+      ap (λ l. piped ids d s r b l) h.2 ∙ ap (λ r. piped ids d s r b (Needs s1 g)) e ∙ holds-within (s1.ticks + s2.ticks) (limit s) _ (le s1 g h.2),
+      ap (λ l. piped ids d s r b l) h.3 ∙ ap (λ r. piped ids d s r b (g x)) e,
     )
-fed_left None (Some y) ids s s2 f b r l l' e le h = absurd h
+fed_left None (Some y) ids d s s2 f b r l l' e le h = absurd h
 
 -- the right side takes the left side's output
-pub fed_right : (ids : List ℕ) (s : State) (b : Point) (o : Out) (r r' l l1 : Proc) → l ≡ Gives o l1 → Fed (Some o.value) None r r' → piped ids s r b l ≡ piped ids s r' o.at l1
-fed_right ids s b o r r' l l1 e h =
-    ap (piped ids s r b) e ∙ ap (λ r. piped ids s r b (Gives o l1)) h.2 ∙ ap (λ r. piped ids s r o.at l1) (sym h.3)
+pub fed_right : (ids : List ℕ) (d : ℕ) (s : State) (b : Point) (o : Out) (r r' l l1 : Proc) → l ≡ Gives o l1 → Fed (Some o.value) None r r' → piped ids d s r b l ≡ piped ids d s r' o.at l1
+fed_right ids d s b o r r' l l1 e h =
+    ap (piped ids d s r b) e ∙ ap (λ r. piped ids d s r b (Gives o l1)) h.2 ∙ ap (λ r. piped ids d s r o.at l1) (sym h.3)

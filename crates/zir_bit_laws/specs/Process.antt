@@ -8,7 +8,7 @@ use Rattle.zir_bit_tree.specs.declared.tree.Comp.{Comp, Take, Emit, Return, Bloc
 use Rattle.zir_bit_tree.specs.declared.tree.Member.{Member}
 use Rattle.zir_bit_meaning.specs.Trace.{State, Point, point, Out, Trace, nowhere, ends, gives}
 use Rattle.zir_bit_meaning.specs.Evaluation.{Eval, Got, Traps, RunsOut, ev}
-use Rattle.zir_bit_meaning.specs.Composition.{limit, over, at_point, fresh}
+use Rattle.zir_bit_meaning.specs.Composition.{limit, over, at_point, waiting, fresh}
 use Rattle.zir_bit_meaning.specs.Component.{bind, leave, assigns}
 
 -- an output and what follows, an end, or what follows each element
@@ -80,17 +80,19 @@ holds false p = spent_proc
 abbrev pub inside : State → Point → Proc → Proc
 inside s p next = holds (nat_le p.ticks (limit s)) next
 
--- the left side runs up to its next output, while the right side waits at s2
-abbrev pub pull : List ℕ → State → (Val → Point → Proc → Proc) → State → Proc → Proc
-pull ids s next s2 (Gives o left) = next o.value o.at left
-pull ids s next s2 (Ends e s1) = let p = over ids (point s1) (point s2) in inside s p (end_proc e (at_point s p))
-pull ids s next s2 (Needs s1 g) = let p = over ids (point s1) (point s2) in inside s p (Needs (at_point s p) (λ x. pull ids s next s2 (g x)))
+-- the left side runs up to its next output, while the right side waits at s2; so many names were in scope before both
+abbrev pub pull : List ℕ → ℕ → State → (Val → Point → Proc → Proc) → State → Proc → Proc
+pull ids d s next s2 (Gives o left) = next o.value o.at left
+pull ids d s next s2 (Ends e s1) = let p = over ids (point s1) (waiting d e (point s2)) in inside s p (end_proc e (at_point s p))
+pull ids d s next s2 (Needs s1 g) =
+    let p = over ids (point s1) (point s2) in inside s p (Needs (at_point s p) (λ x. pull ids d s next s2 (g x)))
 
 -- the right side is asked first; the left side stands at base since its last output, and runs where the right side needs an element
-abbrev pub piped : List ℕ → State → Proc → Point → Proc → Proc
-piped ids s (Gives o right) base left = let p = over ids base o.at in inside s p (Gives (record { value = o.value; at = p }) (piped ids s right base left))
-piped ids s (Ends e s2) base left = let p = over ids base (point s2) in inside s p (end_proc e (at_point s p))
-piped ids s (Needs s2 f) base left = pull ids s (λ v p left'. piped ids s (f v) p left') s2 left
+abbrev pub piped : List ℕ → ℕ → State → Proc → Point → Proc → Proc
+piped ids d s (Gives o right) base left =
+    let p = over ids base o.at in inside s p (Gives (record { value = o.value; at = p }) (piped ids d s right base left))
+piped ids d s (Ends e s2) base left = let p = over ids base (point s2) in inside s p (end_proc e (at_point s p))
+piped ids d s (Needs s2 f) base left = pull ids d s (λ v p left'. piped ids d s (f v) p left') s2 left
 
 abbrev mutual
   -- the process of a component from a state
@@ -102,7 +104,7 @@ abbrev mutual
   proc (Block' _ ms p) s = members_proc ms (length s.store) UnitVal s
   proc (Repeat' _ (more_of-Comp c end_of-Comp) p) s = turns_proc s.left (proc c) s
   proc (Pipe' _ (more_of-Comp a end_of-Comp) _ (more_of-Comp b end_of-Comp) p) s =
-      piped (assigns a) s (proc b (fresh s)) (point s) (proc a s)
+      piped (assigns a) (length s.store) s (proc b (fresh s)) (point s) (proc a s)
 
   -- the members of a block, at whose start the store had length n
   pub members_proc : {m : _} → Row_of-Member m → ℕ → Val → State → Proc

@@ -1,9 +1,9 @@
 -- Composition: the trace of a right side over the outputs of a left side, as one trace over the left side's input.
-use Rattle.std.specs.Prelude.{ℕ, zero, suc, ◌+◌, ◌-◌, Bool, true, false, List, [], ◌∷◌, nat_le, map, drop}
+use Rattle.std.specs.Prelude.{ℕ, zero, suc, ◌+◌, ◌-◌, Bool, true, false, List, [], ◌∷◌, nat_le, map, take, drop, length}
 use Rattle.zir_bit_tree.specs.declared.value.Val.{Val}
 use Rattle.zir_bit_tree.specs.declared.ends.End.{End}
 use Rattle.zir_bit_tree.specs.declared.ends.End.TheVariants.{Value, Starved, Trap as Trapped, Spent}
-use Rattle.zir_bit_meaning.specs.Store.{merge}
+use Rattle.zir_bit_meaning.specs.Store.{Store, merge}
 use Rattle.zir_bit_meaning.specs.Trace.{State, Point, point, Out, Trace, spent, ends, gives}
 
 -- all ticks of a state, used and left
@@ -38,6 +38,17 @@ joined_end left Starved = left
 joined_end left (Trapped t) = Trapped t
 joined_end left Spent = Spent
 
+-- what the right side has in scope while it waits, so many names since before the composition: where the left side ended with a value all others leave
+abbrev pub in_scope : ℕ → End → Store → Store
+in_scope n (Value v) store = take n store
+in_scope n Starved store = store
+in_scope n (Trapped t) store = store
+in_scope n Spent store = store
+
+-- the point where the right side waits, with what is then in scope
+abbrev pub waiting : ℕ → End → Point → Point
+waiting n left p = record p { store = in_scope n left p.store }
+
 -- where it stands: at the right side's lifted end, or where the left side ended
 abbrev pub joined_last : List ℕ → End → Point → Point → Point → Point
 joined_last ids (Value v) left lifted p = lifted
@@ -59,7 +70,7 @@ cut s xs (o ∷ os) e p = within (nat_le o.at.ticks (limit s)) (gives o (cut s x
 abbrev pub joined : List ℕ → State → List Val → List Out → End → State → Trace → Trace
 joined ids s xs outs end last right =
     cut s xs (map (lift_out ids (point s) outs) right.outs) (joined_end end right.end)
-    (joined_last ids right.end (point last) (lift ids (point s) outs (point right.last)) (point right.last))
+    (joined_last ids right.end (point last) (lift ids (point s) outs (point right.last)) (waiting (length s.store) end (point right.last)))
 
 -- the composition of a left trace, from s over xs, that assigns these variables, with a right trace over its outputs
 abbrev pub compose : List ℕ → State → List Val → Trace → Trace → Trace

@@ -25,6 +25,9 @@ x = record { name = 120 ∷ []; id = 1; at = here }
 abbrev y : Ident
 y = record { name = 121 ∷ []; id = 2; at = here }
 
+abbrev z : Ident
+z = record { name = 122 ∷ []; id = 3; at = here }
+
 abbrev taking : Ident → Member
 taking name = record { bound = Some name; what = Take here }
 
@@ -62,6 +65,12 @@ abbrev right_ends : Comp
 right_ends = Pipe
     (Repeat (Block (taking x ∷ step (Emit (Variable x) here) ∷ []) here) here)
     (Block (taking y ∷ step (Emit (Variable y) here) ∷ step (Return (Bit false here) here) ∷ []) here) here
+
+-- repeat ({ x <- take; emit x } >>> repeat { y <- take; emit y; z <- take; emit z })
+abbrev again_and_again : Comp
+again_and_again = Repeat (Pipe
+    (Block (taking x ∷ step (Emit (Variable x) here) ∷ []) here)
+    (Repeat (Block (taking y ∷ step (Emit (Variable y) here) ∷ taking z ∷ step (Emit (Variable z) here) ∷ []) here) here) here) here
 
 pub sums_outs : values (tr sums (start 100) (one_bit ∷ zero_bit ∷ one_bit ∷ [])).outs ≡ one_bit ∷ []
 unfolding shape-the_row-Expr-0 hidden-the_row-Expr-0 shape-the_row-Member-0 hidden-the_row-Member-0 hidden
@@ -134,6 +143,11 @@ right_ends_5 = refl
 pub right_ends_4 : (tr right_ends (start 4) (one_bit ∷ zero_bit ∷ [])).outs ≡ []
 unfolding shape-the_row-Expr-0 hidden-the_row-Expr-0 shape-the_row-Member-0 hidden-the_row-Member-0 hidden shape-the_row-Comp-1 hidden-the_row-Comp-1
 right_ends_4 = refl
+
+-- the names of the right side's block leave where the left side ends
+pub names_leave : values (tr again_and_again (start 100) (one_bit ∷ zero_bit ∷ [])).outs ≡ one_bit ∷ zero_bit ∷ []
+unfolding shape-the_row-Expr-0 hidden-the_row-Expr-0 shape-the_row-Member-0 hidden-the_row-Member-0 hidden shape-the_row-Comp-1 hidden-the_row-Comp-1
+names_leave = refl
 
 -- the least significant bit comes first
 pub bits_of_3 : bits_of (3 ∷ []) ≡ true ∷ true ∷ false ∷ false ∷ false ∷ false ∷ false ∷ false ∷ []

@@ -1,16 +1,18 @@
 -- What follows a trace over bits, and compositions of two, in the whole language.
-use Rattle.std.specs.Prelude.{ℕ, zero, suc, ◌+◌, ◌-◌, Bool, true, false, List, [], ◌∷◌, ◌≡◌, refl, nat_le, map, drop}
+use Rattle.std.specs.Prelude.{ℕ, zero, suc, ◌+◌, ◌-◌, Bool, true, false, List, [], ◌∷◌, ◌≡◌, refl, nat_le, map, drop, length}
 use Rattle.std.proofs.Common.{ap, ◌∙◌}
+use Rattle.zir_meaning.specs.Store as wide_stores
 use Rattle.zir_meaning.specs.Trace as wide
 use Rattle.zir_meaning.specs.Composition as wide_joins
 use Rattle.zir_bit_tree.specs.declared.value.Val.{Val}
 use Rattle.zir_bit_tree.specs.declared.ends.End.{End}
 use Rattle.zir_bit_tree.specs.declared.ends.End.TheVariants.{Value, Starved, Trap as Trapped, Spent}
+use Rattle.zir_bit_meaning.specs.Store.{Store}
 use Rattle.zir_bit_meaning.specs.Trace.{State, Point, point, Out, Trace, Next, ends, gives, after, then_end, then_do, tick_of, tick}
-use Rattle.zir_bit_meaning.specs.Composition.{limit, point_at, over, lift, lift_out, at_point, joined_end, joined_last, within, cut, compose, values}
+use Rattle.zir_bit_meaning.specs.Composition.{limit, point_at, over, lift, lift_out, at_point, joined_end, in_scope, waiting, joined_last, within, cut, compose, values}
 use Rattle.zir_bits.specs.Wide.{wide_value}
-use Rattle.zir_bits.specs.Traces.{wide_state, wide_point, wide_out, wide_end, wide_trace}
-use Rattle.zir_bits.proofs.Lists.{map-after, map-drop, merge-wide}
+use Rattle.zir_bits.specs.Traces.{wide_slot, wide_store, wide_state, wide_point, wide_out, wide_end, wide_trace}
+use Rattle.zir_bits.proofs.Lists.{map-after, map-drop, map-length, merge-wide, narrowed-wide}
 
 -- no output, and this end
 pub ends-wide : (e : End) (s : State) (xs : List Val) → wide.ends (wide_end e) (wide_state s) (map wide_value xs) ≡ wide_trace (ends e s xs)
@@ -83,6 +85,20 @@ joined_end-wide left Starved = refl
 joined_end-wide left (Trapped t) = refl
 joined_end-wide left Spent = refl
 
+-- what is in scope while its right side waits
+in_scope-wide : (n : ℕ) (left : End) (store : Store) → wide_joins.in_scope n (wide_end left) (wide_store store) ≡ wide_store (in_scope n left store)
+in_scope-wide n (Value v) store = narrowed-wide n store
+in_scope-wide n Starved store = refl
+in_scope-wide n (Trapped t) store = refl
+in_scope-wide n Spent store = refl
+
+-- the point where its right side waits
+waiting-wide : (s : State) (left : End) (p : Point) →
+    wide_joins.waiting (wide_stores.depth (wide_store s.store)) (wide_end left) (wide_point p) ≡ wide_point (waiting (length s.store) left p)
+waiting-wide s left p =
+    ap (λ n. wide_joins.waiting n (wide_end left) (wide_point p)) (map-length wide_slot s.store)
+    ∙ ap (λ store. record { taken = p.taken; ticks = p.ticks; store = store }) (in_scope-wide (length s.store) left p.store)
+
 -- where it stands
 joined_last-wide : (e : End) (left lifted p : Point) →
     wide_joins.joined_last [] (wide_end e) (wide_point left) (wide_point lifted) (wide_point p) ≡ wide_point (joined_last [] e left lifted p)
@@ -115,20 +131,24 @@ compose-wide s xs left right =
     let outs : List Out = map (lift_out [] (point s) left.outs) right.outs in
     let end : End = joined_end left.end right.end in
     let lifted : Point = lift [] (point s) left.outs (point right.last) in
-    let last : Point = joined_last [] right.end (point left.last) lifted (point right.last) in
+    let waits : Point = waiting (length s.store) left.end (point right.last) in
+    let last : Point = joined_last [] right.end (point left.last) lifted waits in
+    let wide_lifted = wide_joins.lift [] (wide_point (point s)) (map wide_out left.outs) (wide_point (point right.last)) in
+    let wide_waits = wide_joins.waiting (wide_stores.depth (wide_store s.store)) (wide_end left.end) (wide_point (point right.last)) in
     ap (λ os. wide_joins.cut (wide_state s) (map wide_value xs) os (wide_joins.joined_end (wide_end left.end) (wide_end right.end))
-    (wide_joins.joined_last [] (wide_end right.end) (wide_point (point left.last))
-    (wide_joins.lift [] (wide_point (point s)) (map wide_out left.outs) (wide_point (point right.last))) (wide_point (point right.last))))
+    (wide_joins.joined_last [] (wide_end right.end) (wide_point (point left.last)) wide_lifted wide_waits))
     (outs-wide (point s) left.outs right.outs)
     ∙ ap (λ e. wide_joins.cut (wide_state s) (map wide_value xs) (map wide_out outs) e
-    (wide_joins.joined_last [] (wide_end right.end) (wide_point (point left.last))
-    (wide_joins.lift [] (wide_point (point s)) (map wide_out left.outs) (wide_point (point right.last))) (wide_point (point right.last))))
+    (wide_joins.joined_last [] (wide_end right.end) (wide_point (point left.last)) wide_lifted wide_waits))
     (joined_end-wide left.end right.end)
     ∙ ap (λ q. wide_joins.cut (wide_state s) (map wide_value xs) (map wide_out outs) (wide_end end)
-    (wide_joins.joined_last [] (wide_end right.end) (wide_point (point left.last)) q (wide_point (point right.last))))
+    (wide_joins.joined_last [] (wide_end right.end) (wide_point (point left.last)) q wide_waits))
     (lift-wide (point s) left.outs (point right.last))
+    ∙ ap (λ q. wide_joins.cut (wide_state s) (map wide_value xs) (map wide_out outs) (wide_end end)
+    (wide_joins.joined_last [] (wide_end right.end) (wide_point (point left.last)) (wide_point lifted) q))
+    (waiting-wide s left.end (point right.last))
     ∙ ap (wide_joins.cut (wide_state s) (map wide_value xs) (map wide_out outs) (wide_end end))
-    (joined_last-wide right.end (point left.last) lifted (point right.last))
+    (joined_last-wide right.end (point left.last) lifted waits)
     ∙ cut-wide s xs outs end last
 
 -- the values of outputs

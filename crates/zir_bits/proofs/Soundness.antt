@@ -1,5 +1,5 @@
 -- Components that emit bits alone do so and never trap.
-use Rattle.std.specs.Prelude.{ℕ, zero, suc, ◌+◌, ◌-◌, List, [], ◌∷◌, ◌++◌, ◌≡◌, ◌⊎◌, refl, Bool, true, false, if◌then◌else◌, nat_eq, nat_le, map, take, drop, Some, None}
+use Rattle.std.specs.Prelude.{ℕ, zero, suc, ◌+◌, ◌-◌, List, [], ◌∷◌, ◌++◌, ◌≡◌, ◌⊎◌, refl, Bool, true, false, if◌then◌else◌, nat_eq, nat_le, map, take, drop, length, Some, None}
 use Rattle.std.proofs.Common.{ap, ◌∙◌, sym, subst, inl, inr, eq-eqb}
 use Rattle.zir_tree.specs.declared.ident.Ident.{Ident}
 use Rattle.zir_bit_tree.specs.declared.value.Val.{Val}
@@ -12,7 +12,7 @@ use Rattle.zir_bit_tree.specs.declared.tree.Comp.{Comp, Take, Emit, Return, Bloc
 use Rattle.zir_bit_meaning.specs.Store.{Store, look_up, merge}
 use Rattle.zir_bit_meaning.specs.Trace.{State, Point, point, Out, Trace, Next, spent, ends, gives, then_end, then_do, tick_of, tick}
 use Rattle.zir_bit_meaning.specs.Evaluation.{Got, xor_of, then_eval, ev, with_value}
-use Rattle.zir_bit_meaning.specs.Composition.{limit, point_at, over, lift, lift_out, at_point, joined_end, joined_last, within, cut, compose, fresh, values}
+use Rattle.zir_bit_meaning.specs.Composition.{limit, point_at, over, lift, lift_out, at_point, joined_end, in_scope, waiting, joined_last, within, cut, compose, fresh, values}
 use Rattle.zir_bit_meaning.specs.Component.{take_of, turns, bind, tr, members}
 use Rattle.zir_bits.specs.Bits.{InScope, OfBits, IsTake, IsPlainMember, AreMembers, EmitsBits}
 use Rattle.zir_bits.proofs.Assigned.{bits-none}
@@ -333,22 +333,31 @@ moved-end Starved s s' h each = each
 moved-end (Trapped t) s s' h each = h
 moved-end Spent s s' h each = tt
 
+-- what is in scope while the right side of a composition waits
+slots-in_scope : (n : ℕ) (left : End) (store : Store) → EachSlot store → EachSlot (in_scope n left store)
+slots-in_scope n (Value v) store f = slots-take n store f
+slots-in_scope n Starved store f = f
+slots-in_scope n (Trapped t) store f = f
+slots-in_scope n Spent store f = f
+
 -- the end of a composition
-joined-sound : (s s1 s2 : State) (left right : End) (lifted_from : Point) → IsSoundEnd Any left s1 → IsSoundEnd Any right s2 →
-    IsSoundEnd Any (joined_end left right) (at_point s (joined_last [] right (point s1) (over [] lifted_from (point s2)) (point s2)))
-joined-sound s s1 s2 left (Value v) lifted_from h k = (tt, slots-merge lifted_from.store s2.store k.1)
-joined-sound s s1 s2 left Starved lifted_from h k =
-    moved-end left s1 (at_point s (over [] (point s1) (point s2))) h (slots-merge s1.store s2.store k)
-joined-sound s s1 s2 left (Trapped t) lifted_from h k = k
-joined-sound s s1 s2 left Spent lifted_from h k = tt
+joined-sound : (n : ℕ) (s s1 s2 : State) (left right : End) (lifted_from : Point) → IsSoundEnd Any left s1 → IsSoundEnd Any right s2 →
+    IsSoundEnd Any (joined_end left right) (at_point s (joined_last [] right (point s1) (over [] lifted_from (point s2)) (waiting n left (point s2))))
+joined-sound n s s1 s2 left (Value v) lifted_from h k = (tt, slots-merge lifted_from.store s2.store k.1)
+joined-sound n s s1 s2 left Starved lifted_from h k =
+    moved-end left s1 (at_point s (over [] (point s1) (waiting n left (point s2)))) h
+    (slots-merge s1.store (in_scope n left s2.store) (slots-in_scope n left s2.store k))
+joined-sound n s s1 s2 left (Trapped t) lifted_from h k = k
+joined-sound n s s1 s2 left Spent lifted_from h k = tt
 
 -- a composition whose left side assigns nothing
 compose-sound : (s : State) (xs : List Val) (left right : Trace) → Sound Any left → Sound Any right → EachBit xs → Sound Any (compose [] s xs left right)
 compose-sound s xs left right h k f =
     cut-sound s xs (map (lift_out [] (point s) left.outs) right.outs) (joined_end left.end right.end)
-    (joined_last [] right.end (point left.last) (lift [] (point s) left.outs (point right.last)) (point right.last))
+    (joined_last [] right.end (point left.last) (lift [] (point s) left.outs (point right.last))
+    (waiting (length s.store) left.end (point right.last)))
     (outs-lifted (point s) left.outs right.outs k.outs)
-    (joined-sound s left.last right.last left.end right.end (point_at (point s) left.outs right.last.taken) h.end k.end) f
+    (joined-sound (length s.store) s left.last right.last left.end right.end (point_at (point s) left.outs right.last.taken) h.end k.end) f
 
 -- a component
 pub tr-sound : (c : Comp) → EmitsBits c → IsSoundDoes (tr c)

@@ -53,8 +53,8 @@ mutual
       (λ vs. funext (procs k vs) (procs' k vs) (λ s. h k vs s w)))
   agree-proc r n procs procs' h (Block' _ ms p) w s = agree-members r n procs procs' h ms w (depth s.store) UnitVal s
   agree-proc r n procs procs' h (Pipe' link _ (more_of-Comp a end_of-Comp) _ (more_of-Comp b end_of-Comp) p) w s =
-      ap (λ left. piped (assigns r.assigned a) s (proc r procs b (fresh s)) (point s) left) (agree-proc r n procs procs' h a w.0 s)
-      ∙ ap (λ right. piped (assigns r.assigned a) s right (point s) (proc r procs' a s)) (agree-proc r n procs procs' h b w.1 (fresh s))
+      ap (λ left. piped (assigns r.assigned a) (depth s.store) s (proc r procs b (fresh s)) (point s) left) (agree-proc r n procs procs' h a w.0 s)
+      ∙ ap (λ right. piped (assigns r.assigned a) (depth s.store) s right (point s) (proc r procs' a s)) (agree-proc r n procs procs' h b w.1 (fresh s))
 
   -- the members of a block
   agree-members : {m : _} (r : Around) (n : ℕ) (procs procs' : Procs) → Agree n procs procs' → (ms : Row_of-Member m) → MembersCallBelow n ms →

@@ -8,7 +8,7 @@ use Rattle.zir_tree.specs.declared.ends.End.{End}
 use Rattle.zir_tree.specs.declared.ends.End.TheVariants.{Value, Starved, Trap as Trapped, Spent}
 use Rattle.zir_meaning.specs.Trace.{State, Point, point}
 use Rattle.zir_meaning.specs.Evaluation.{Eval, Got, Traps, RunsOut}
-use Rattle.zir_meaning.specs.Composition.{limit, over, at_point}
+use Rattle.zir_meaning.specs.Composition.{limit, over, at_point, waiting}
 use Rattle.zir_laws.specs.Process.{Proc, Gives, Ends, Needs, end_proc, NextProc, then_proc, tick_proc, tick_proc_of, with_proc, choose_proc, holds, inside, pull, piped}
 use Rattle.zir_laws.specs.Acts.{seen_proc}
 use Rattle.zir_laws.proofs.Evaluating.{EvalKeeps}
@@ -88,32 +88,32 @@ bounded-end (Trapped c) m u n t s1 s p h k e = bounded-inside n t s p _ e (λ le
 bounded-end Spent m u n t s1 s p h k e = bounded-inside n t s p _ e (λ le. tt)
 
 -- a left side that runs up to its next output
-bounded-pull : (ids : List ℕ) (l : Proc) (n t : ℕ) (s : State) (next : Val → Point → Proc → Proc) (s2 : State) → limit s ≡ n → Bounded n t l →
-    ((v : Val) (p : Point) (l' : Proc) → Bounded n p.ticks l' → Bounded n (p.ticks + s2.ticks) (next v p l')) → Bounded n (t + s2.ticks) (pull ids s next s2 l)
-bounded-pull ids (Gives o l) n t s next s2 e h k =
+bounded-pull : (ids : List ℕ) (d : ℕ) (l : Proc) (n t : ℕ) (s : State) (next : Val → Point → Proc → Proc) (s2 : State) → limit s ≡ n → Bounded n t l →
+    ((v : Val) (p : Point) (l' : Proc) → Bounded n p.ticks l' → Bounded n (p.ticks + s2.ticks) (next v p l')) → Bounded n (t + s2.ticks) (pull ids d s next s2 l)
+bounded-pull ids d (Gives o l) n t s next s2 e h k =
     bounded-earlier (next o.value o.at l) n (o.at.ticks + s2.ticks) (t + s2.ticks) (omega arith) (k o.value o.at l h.2)
-bounded-pull ids (Ends x s1) n t s next s2 e h k = bounded-end x n t n (t + s2.ticks) s1 s (over ids (point s1) (point s2)) h (λ le. omega arith) e
-bounded-pull ids (Needs s1 g) n t s next s2 e h k =
+bounded-pull ids d (Ends x s1) n t s next s2 e h k = bounded-end x n t n (t + s2.ticks) s1 s (over ids (point s1) (waiting d x (point s2))) h (λ le. omega arith) e
+bounded-pull ids d (Needs s1 g) n t s next s2 e h k =
     let p = over ids (point s1) (point s2) in
     bounded-inside n (t + s2.ticks) s p _ e
     (λ le. (
       omega arith,
       limit-at_point n s p e le,
-      λ x. bounded-earlier (pull ids s next s2 (g x)) n (s1.ticks + 1 + s2.ticks) (p.ticks + 1) (omega arith)
-          (bounded-pull ids (g x) n (s1.ticks + 1) s next s2 e (h.2 x) k),
+      λ x. bounded-earlier (pull ids d s next s2 (g x)) n (s1.ticks + 1 + s2.ticks) (p.ticks + 1) (omega arith)
+          (bounded-pull ids d (g x) n (s1.ticks + 1) s next s2 e (h.2 x) k),
     ))
 
 -- a composition, from the left side's last point and the right side's ticks
-pub bounded-piped : (ids : List ℕ) (r : Proc) (m n t : ℕ) (s : State) (base : Point) (l : Proc) → limit s ≡ n → Bounded m t r → Bounded n base.ticks l →
-    Bounded n (base.ticks + t) (piped ids s r base l)
-bounded-piped ids (Gives o r) m n t s base l e hr hl =
-    bounded-inside n (base.ticks + t) s (over ids base o.at) _ e (λ le. (omega arith, le, bounded-piped ids r m n o.at.ticks s base l e hr.2 hl))
-bounded-piped ids (Ends x s2) m n t s base l e hr hl = bounded-end x m t n (base.ticks + t) s2 s (over ids base (point s2)) hr (λ le. omega arith) e
-bounded-piped ids (Needs s2 f) m n t s base l e hr hl =
-    bounded-earlier (pull ids s (λ v p l'. piped ids s (f v) p l') s2 l) n (base.ticks + s2.ticks) (base.ticks + t) (omega arith)
-    (bounded-pull ids l n base.ticks s (λ v p l'. piped ids s (f v) p l') s2 e hl
-    (λ v p l' h. bounded-earlier (piped ids s (f v) p l') n (p.ticks + (s2.ticks + 1)) (p.ticks + s2.ticks) (omega arith)
-    (bounded-piped ids (f v) m n (s2.ticks + 1) s p l' e (hr.2 v) h)))
+pub bounded-piped : (ids : List ℕ) (d : ℕ) (r : Proc) (m n t : ℕ) (s : State) (base : Point) (l : Proc) → limit s ≡ n → Bounded m t r → Bounded n base.ticks l →
+    Bounded n (base.ticks + t) (piped ids d s r base l)
+bounded-piped ids d (Gives o r) m n t s base l e hr hl =
+    bounded-inside n (base.ticks + t) s (over ids base o.at) _ e (λ le. (omega arith, le, bounded-piped ids d r m n o.at.ticks s base l e hr.2 hl))
+bounded-piped ids d (Ends x s2) m n t s base l e hr hl = bounded-end x m t n (base.ticks + t) s2 s (over ids base (point s2)) hr (λ le. omega arith) e
+bounded-piped ids d (Needs s2 f) m n t s base l e hr hl =
+    bounded-earlier (pull ids d s (λ v p l'. piped ids d s (f v) p l') s2 l) n (base.ticks + s2.ticks) (base.ticks + t) (omega arith)
+    (bounded-pull ids d l n base.ticks s (λ v p l'. piped ids d s (f v) p l') s2 e hl
+    (λ v p l' h. bounded-earlier (piped ids d s (f v) p l') n (p.ticks + (s2.ticks + 1)) (p.ticks + s2.ticks) (omega arith)
+    (bounded-piped ids d (f v) m n (s2.ticks + 1) s p l' e (hr.2 v) h)))
 
 -- a called body, as its caller sees it
 pub bounded-seen : (locals : List Slot) (p : Proc) (n t : ℕ) → Bounded n t p → Bounded n t (seen_proc locals p)

@@ -6,7 +6,7 @@ use Rattle.zir_tree.specs.declared.value.Slot.{Slot}
 use Rattle.zir_tree.specs.declared.ends.End.TheVariants.{Value, Starved, Trap as Trapped, Spent}
 use Rattle.zir_meaning.specs.Trace.{State, Point, point}
 use Rattle.zir_meaning.specs.Evaluation.{Eval, Got, Traps, RunsOut}
-use Rattle.zir_meaning.specs.Composition.{limit, over, at_point}
+use Rattle.zir_meaning.specs.Composition.{limit, over, at_point, waiting}
 use Rattle.zir_laws.specs.Process.{Proc, Gives, Ends, Needs, spent_proc, NextProc, then_proc, tick_proc, tick_proc_of, with_proc, choose_proc, holds, pull, piped}
 use Rattle.zir_laws.specs.Acts.{seen_proc}
 use Rattle.zir_laws.proofs.Evaluating.{EvalKeeps}
@@ -75,40 +75,42 @@ counts-holds true p k t h = h
 counts-holds false p k t h = tt
 
 -- a left side that runs up to its next output
-pub counts-pull : (ids : List ℕ) (l : Proc) (s : State) (next : Val → Point → Proc → Proc) (s2 : State) (k t : ℕ) →
+pub counts-pull : (ids : List ℕ) (d : ℕ) (l : Proc) (s : State) (next : Val → Point → Proc → Proc) (s2 : State) (k t : ℕ) →
     Counts k t l → ((v : Val) (p : Point) (l' : Proc) → Counts p.taken p.ticks l' → Counts p.taken (p.ticks + s2.ticks) (next v p l')) →
-    Counts k (t + s2.ticks) (pull ids s next s2 l)
-counts-pull ids (Gives o l) s next s2 k t h n =
+    Counts k (t + s2.ticks) (pull ids d s next s2 l)
+counts-pull ids d (Gives o l) s next s2 k t h n =
     counts-earlier (next o.value o.at l) k (o.at.ticks + s2.ticks) (t + s2.ticks) (omega arith)
     (subst (λ k. Counts k (o.at.ticks + s2.ticks) (next o.value o.at l)) h.0 (n o.value o.at l (subst (λ k. Counts k o.at.ticks l) (sym h.0) h.2)))
-counts-pull ids (Ends (Value v) s1) s next s2 k t h n =
-    counts-holds (nat_le (s1.ticks + s2.ticks) (limit s)) (Ends (Value v) (at_point s (over ids (point s1) (point s2)))) k (t + s2.ticks) (h.0, omega arith)
-counts-pull ids (Ends Starved s1) s next s2 k t h n = absurd h
-counts-pull ids (Ends (Trapped c) s1) s next s2 k t h n =
-    counts-holds (nat_le (s1.ticks + s2.ticks) (limit s)) (Ends (Trapped c) (at_point s (over ids (point s1) (point s2)))) k (t + s2.ticks) (h.0, omega arith)
-counts-pull ids (Ends Spent s1) s next s2 k t h n = counts-holds (nat_le (s1.ticks + s2.ticks) (limit s)) spent_proc k (t + s2.ticks) tt
-counts-pull ids (Needs s1 g) s next s2 k t h n =
-    counts-holds (nat_le (s1.ticks + s2.ticks) (limit s)) (Needs (at_point s (over ids (point s1) (point s2))) (λ x. pull ids s next s2 (g x))) k (t + s2.ticks)
-    (h.0, omega arith, λ x. counts-pull ids (g x) s next s2 (k + 1) s1.ticks (h.2 x) n)
+counts-pull ids d (Ends (Value v) s1) s next s2 k t h n =
+    counts-holds (nat_le (s1.ticks + s2.ticks) (limit s)) (Ends (Value v) (at_point s (over ids (point s1) (waiting d (Value v) (point s2))))) k (t + s2.ticks)
+    (h.0, omega arith)
+counts-pull ids d (Ends Starved s1) s next s2 k t h n = absurd h
+counts-pull ids d (Ends (Trapped c) s1) s next s2 k t h n =
+    counts-holds (nat_le (s1.ticks + s2.ticks) (limit s)) (Ends (Trapped c) (at_point s (over ids (point s1) (waiting d (Trapped c) (point s2))))) k (t + s2.ticks)
+    (h.0, omega arith)
+counts-pull ids d (Ends Spent s1) s next s2 k t h n = counts-holds (nat_le (s1.ticks + s2.ticks) (limit s)) spent_proc k (t + s2.ticks) tt
+counts-pull ids d (Needs s1 g) s next s2 k t h n =
+    counts-holds (nat_le (s1.ticks + s2.ticks) (limit s)) (Needs (at_point s (over ids (point s1) (point s2))) (λ x. pull ids d s next s2 (g x))) k (t + s2.ticks)
+    (h.0, omega arith, λ x. counts-pull ids d (g x) s next s2 (k + 1) s1.ticks (h.2 x) n)
 
 -- a composition, from the left side's last point and the right side's ticks
-pub counts-piped : (ids : List ℕ) (r : Proc) (s : State) (j t2 : ℕ) (base : Point) (l : Proc) →
-    Counts j t2 r → Counts base.taken base.ticks l → Counts base.taken (base.ticks + t2) (piped ids s r base l)
-counts-piped ids (Gives o r) s j t2 base l hr hl =
+pub counts-piped : (ids : List ℕ) (d : ℕ) (r : Proc) (s : State) (j t2 : ℕ) (base : Point) (l : Proc) →
+    Counts j t2 r → Counts base.taken base.ticks l → Counts base.taken (base.ticks + t2) (piped ids d s r base l)
+counts-piped ids d (Gives o r) s j t2 base l hr hl =
     counts-holds (nat_le (base.ticks + o.at.ticks) (limit s))
-    (Gives (record { value = o.value; at = over ids base o.at }) (piped ids s r base l)) base.taken (base.ticks + t2)
-    (refl, omega arith, counts-piped ids r s j o.at.ticks base l hr.2 hl)
-counts-piped ids (Ends (Value v) s2) s j t2 base l hr hl =
+    (Gives (record { value = o.value; at = over ids base o.at }) (piped ids d s r base l)) base.taken (base.ticks + t2)
+    (refl, omega arith, counts-piped ids d r s j o.at.ticks base l hr.2 hl)
+counts-piped ids d (Ends (Value v) s2) s j t2 base l hr hl =
     counts-holds (nat_le (base.ticks + s2.ticks) (limit s)) (Ends (Value v) (at_point s (over ids base (point s2)))) base.taken (base.ticks + t2)
     (refl, omega arith)
-counts-piped ids (Ends Starved s2) s j t2 base l hr hl = absurd hr
-counts-piped ids (Ends (Trapped c) s2) s j t2 base l hr hl =
+counts-piped ids d (Ends Starved s2) s j t2 base l hr hl = absurd hr
+counts-piped ids d (Ends (Trapped c) s2) s j t2 base l hr hl =
     counts-holds (nat_le (base.ticks + s2.ticks) (limit s)) (Ends (Trapped c) (at_point s (over ids base (point s2)))) base.taken (base.ticks + t2)
     (refl, omega arith)
-counts-piped ids (Ends Spent s2) s j t2 base l hr hl = counts-holds (nat_le (base.ticks + s2.ticks) (limit s)) spent_proc base.taken (base.ticks + t2) tt
-counts-piped ids (Needs s2 f) s j t2 base l hr hl =
-    counts-earlier (pull ids s (λ v p l'. piped ids s (f v) p l') s2 l) base.taken (base.ticks + s2.ticks) (base.ticks + t2) (omega arith)
-    (counts-pull ids l s (λ v p l'. piped ids s (f v) p l') s2 base.taken base.ticks hl (λ v p l' h. counts-piped ids (f v) s (j + 1) s2.ticks p l' (hr.2 v) h))
+counts-piped ids d (Ends Spent s2) s j t2 base l hr hl = counts-holds (nat_le (base.ticks + s2.ticks) (limit s)) spent_proc base.taken (base.ticks + t2) tt
+counts-piped ids d (Needs s2 f) s j t2 base l hr hl =
+    counts-earlier (pull ids d s (λ v p l'. piped ids d s (f v) p l') s2 l) base.taken (base.ticks + s2.ticks) (base.ticks + t2) (omega arith)
+    (counts-pull ids d l s (λ v p l'. piped ids d s (f v) p l') s2 base.taken base.ticks hl (λ v p l' h. counts-piped ids d (f v) s (j + 1) s2.ticks p l' (hr.2 v) h))
 
 -- a called body, as its caller sees it
 pub counts-seen : (locals : List Slot) (p : Proc) (k t : ℕ) → Counts k t p → Counts k t (seen_proc locals p)

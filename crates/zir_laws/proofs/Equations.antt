@@ -79,7 +79,7 @@ if-choose r procs e a b p s = refl
 
 -- the process of a composition is that of its right side over that of its left side
 pub pipe-piped : (r : Around) (procs : Procs) (link : Link) (a b : Comp) (p : Place) (s : State) →
-    proc r procs (Pipe link a b p) s ≡ piped (assigns r.assigned a) s (proc r procs b (fresh s)) (point s) (proc r procs a s)
+    proc r procs (Pipe link a b p) s ≡ piped (assigns r.assigned a) (depth s.store) s (proc r procs b (fresh s)) (point s) (proc r procs a s)
 unfolding shape-the_row-Comp-0 hidden-the_row-Comp-0 hidden
 pipe-piped r procs link a b p s = refl
 

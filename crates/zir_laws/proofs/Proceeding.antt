@@ -6,7 +6,7 @@ use Rattle.zir_tree.specs.declared.value.Slot.{Slot}
 use Rattle.zir_tree.specs.declared.types.Field.{Field}
 use Rattle.zir_tree.specs.declared.ends.End.TheVariants.{Value}
 use Rattle.zir_tree.specs.declared.expr.Expr.{Expr}
-use Rattle.zir_meaning.specs.Store.{Store}
+use Rattle.zir_meaning.specs.Store.{Store, depth}
 use Rattle.zir_meaning.specs.Trace.{State, point}
 use Rattle.zir_meaning.specs.Evaluation.{Eval, Library, ev}
 use Rattle.zir_meaning.specs.Functions.{arguments, entered}
@@ -120,13 +120,13 @@ proceeds-outputs (v ∷ vs) =
     }
 
 -- a composition
-pub proceeds-pipe : (ids : List ℕ) (a b : State → Proc) → Proceeds a → Proceeds b → Proceeds (λ s. piped ids s (b (fresh s)) (point s) (a s))
+pub proceeds-pipe : (ids : List ℕ) (a b : State → Proc) → Proceeds a → Proceeds b → Proceeds (λ s. piped ids (depth s.store) s (b (fresh s)) (point s) (a s))
 proceeds-pipe ids a b h k = record {
-  counts = λ s. counts-earlier (piped ids s (b (fresh s)) (point s) (a s)) s.taken (s.ticks + 0) s.ticks (omega arith)
-      (counts-piped ids (b (fresh s)) s 0 0 (point s) (a s) (k.counts (fresh s)) (h.counts s));
-  bounded = λ s. bounded-earlier (piped ids s (b (fresh s)) (point s) (a s)) (limit s) (s.ticks + 0) s.ticks (omega arith)
-      (bounded-piped ids (b (fresh s)) (limit (fresh s)) (limit s) 0 s (point s) (a s) refl (k.bounded (fresh s)) (h.bounded s));
-  funded = λ m s. funded-piped ids (b (fresh s)) (b (fresh (richer m s))) s (limit s) (limit (fresh s)) m 0 0 (point s) (a s) (a (richer m s)) refl
+  counts = λ s. counts-earlier (piped ids (depth s.store) s (b (fresh s)) (point s) (a s)) s.taken (s.ticks + 0) s.ticks (omega arith)
+      (counts-piped ids (depth s.store) (b (fresh s)) s 0 0 (point s) (a s) (k.counts (fresh s)) (h.counts s));
+  bounded = λ s. bounded-earlier (piped ids (depth s.store) s (b (fresh s)) (point s) (a s)) (limit s) (s.ticks + 0) s.ticks (omega arith)
+      (bounded-piped ids (depth s.store) (b (fresh s)) (limit (fresh s)) (limit s) 0 s (point s) (a s) refl (k.bounded (fresh s)) (h.bounded s));
+  funded = λ m s. funded-piped ids (depth s.store) (b (fresh s)) (b (fresh (richer m s))) s (limit s) (limit (fresh s)) m 0 0 (point s) (a s) (a (richer m s)) refl
       (omega arith) (omega arith) (k.counts (fresh (richer m s))) (k.funded m (fresh s)) (h.counts (richer m s)) (h.funded m s);
 }
 

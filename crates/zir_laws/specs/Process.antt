@@ -14,7 +14,7 @@ use Rattle.zir_meaning.specs.Trace.{State, Point, point, Out, Trace, nowhere, en
 use Rattle.zir_meaning.specs.Evaluation.{Eval, Got, Traps, RunsOut, Library, ev, called_by}
 use Rattle.zir_meaning.specs.Statements.{bind, leave, turns_of, next_index, initial_of, run_body}
 use Rattle.zir_meaning.specs.Assigned.{assigns}
-use Rattle.zir_meaning.specs.Composition.{limit, over, at_point, fresh}
+use Rattle.zir_meaning.specs.Composition.{limit, over, at_point, waiting, fresh}
 use Rattle.zir_meaning.specs.Component.{always, test_of, bind_index, Around}
 
 -- an output and what follows, an end, or what follows each element
@@ -136,19 +136,19 @@ holds false p = spent_proc
 abbrev pub inside : State → Point → Proc → Proc
 inside s p next = holds (nat_le p.ticks (limit s)) next
 
--- the left side runs up to its next output, while the right side waits at s2
-abbrev pub pull : List ℕ → State → (Val → Point → Proc → Proc) → State → Proc → Proc
-pull ids s next s2 (Gives o left) = next o.value o.at left
-pull ids s next s2 (Ends e s1) = let p = over ids (point s1) (point s2) in inside s p (end_proc e (at_point s p))
-pull ids s next s2 (Needs s1 g) =
-    let p = over ids (point s1) (point s2) in inside s p (Needs (at_point s p) (λ x. pull ids s next s2 (g x)))
+-- the left side runs up to its next output, while the right side waits at s2; so many names were in scope before both
+abbrev pub pull : List ℕ → ℕ → State → (Val → Point → Proc → Proc) → State → Proc → Proc
+pull ids d s next s2 (Gives o left) = next o.value o.at left
+pull ids d s next s2 (Ends e s1) = let p = over ids (point s1) (waiting d e (point s2)) in inside s p (end_proc e (at_point s p))
+pull ids d s next s2 (Needs s1 g) =
+    let p = over ids (point s1) (point s2) in inside s p (Needs (at_point s p) (λ x. pull ids d s next s2 (g x)))
 
 -- the right side is asked first; the left side stands at base since its last output, and runs where the right side needs an element
-abbrev pub piped : List ℕ → State → Proc → Point → Proc → Proc
-piped ids s (Gives o right) base left =
-    let p = over ids base o.at in inside s p (Gives (record { value = o.value; at = p }) (piped ids s right base left))
-piped ids s (Ends e s2) base left = let p = over ids base (point s2) in inside s p (end_proc e (at_point s p))
-piped ids s (Needs s2 f) base left = pull ids s (λ v p left'. piped ids s (f v) p left') s2 left
+abbrev pub piped : List ℕ → ℕ → State → Proc → Point → Proc → Proc
+piped ids d s (Gives o right) base left =
+    let p = over ids base o.at in inside s p (Gives (record { value = o.value; at = p }) (piped ids d s right base left))
+piped ids d s (Ends e s2) base left = let p = over ids base (point s2) in inside s p (end_proc e (at_point s p))
+piped ids d s (Needs s2 f) base left = pull ids d s (λ v p left'. piped ids d s (f v) p left') s2 left
 
 -- what each instance declared before does with the values of its arguments as a process, by its place
 abbrev pub Procs : Type 0
@@ -177,7 +177,7 @@ abbrev mutual
   proc r procs (Call name k es) s = arguments_proc r.library es [] s (λ vs s'. tick_proc s' (λ s''. procs k vs s''))
   proc r procs (Block' _ ms p) s = members_proc r procs ms (depth s.store) UnitVal s
   proc r procs (Pipe' link _ (more_of-Comp a end_of-Comp) _ (more_of-Comp b end_of-Comp) p) s =
-      piped (assigns r.assigned a) s (proc r procs b (fresh s)) (point s) (proc r procs a s)
+      piped (assigns r.assigned a) (depth s.store) s (proc r procs b (fresh s)) (point s) (proc r procs a s)
 
   -- the members of a block, at whose start so many names were in scope, after a member that ended with v
   pub members_proc : {m : _} → Around → Procs → Row_of-Member m → ℕ → Val → State → Proc

@@ -1,11 +1,11 @@
 -- What the answer of a side is for the whole composition.
-use Rattle.std.specs.Prelude.{ℕ, ◌≡◌, refl, ◌+◌, ◌-◌, ◌≤◌, ◌<◌, [], None, true}
+use Rattle.std.specs.Prelude.{ℕ, ◌≡◌, refl, ◌+◌, ◌-◌, ◌≤◌, ◌<◌, [], None, true, take}
 use Rattle.std.proofs.Common.{ap, sym, subst, ◌∙◌, arith}
 use Rattle.zir_bit_tree.specs.declared.value.Val.{Val}
 use Rattle.zir_bit_tree.specs.declared.ends.End.TheVariants.{Value}
 use Rattle.zir_bit_meaning.specs.Store.{merge}
 use Rattle.zir_bit_meaning.specs.Trace.{State, Point, point}
-use Rattle.zir_bit_meaning.specs.Composition.{limit, over, at_point}
+use Rattle.zir_bit_meaning.specs.Composition.{limit, over, at_point, waiting}
 use Rattle.zir_bit_laws.specs.Process.{Proc, Gives, Ends, Needs, spent_proc, piped}
 use Rattle.zir_bit_laws.proofs.Equations.{merge-none}
 use Rattle.zir_bit_laws.proofs.Limits.{piped-limit, holds-within}
@@ -78,13 +78,13 @@ at-over s s' b p a c d e = same_state _ _ (sym a) (sym c) (sym d) (merge-none b.
 
 -- past the limit the right side's next event is spent
 pub right_past : (l : Linked) (s : State) → Sides l s → limit s < l.base.ticks + l.right_progress.ticks → link_goes l s ≡ spent_proc
-right_past l s h lt = piped-past [] s (right_does l s) (base_point l.base) (left_does l) l.right_progress.ticks l.left_progress.ticks
+right_past l s h lt = piped-past [] l.depth s (right_does l s) (base_point l.base) (left_does l) l.right_progress.ticks l.left_progress.ticks
     (l.right.late l.right_progress.focus (right_state l s) h.right) (l.left.late l.left_progress.focus (left_state l) h.left) lt (omega (arith, lt, h.base))
 
 -- an output of the right side is one of the whole
 pub right_gives : (l m : Linked) (s s' : State) (f : Focus) → f ≡ l.right_progress.focus → Stands Yield l.right_progress.focus (right_state l s) None (right_does l s) →
     l.base.ticks + l.right_progress.ticks ≤ limit s → s'.taken ≡ l.base.taken → s'.ticks ≡ l.base.ticks + l.right_progress.ticks → s'.left ≡ limit s - (l.base.ticks + l.right_progress.ticks) → s'.store ≡ s.store →
-    link_goes m s' ≡ piped [] s' (l.right.does Given (right_state l s)) (base_point l.base) (left_does l) → Sound m s' → Answers Yield None None (link_goes l s) m f s'
+    link_goes m s' ≡ piped [] l.depth s' (l.right.does Given (right_state l s)) (base_point l.base) (left_does l) → Sound m s' → Answers Yield None None (link_goes l s) m f s'
 right_gives l m s s' f e w le a b c d k h =
     let v : Val = w.0 in
     let g : f ≡ Giving v = e ∙ w.1 in
@@ -94,11 +94,11 @@ right_gives l m s s' f e w le a b c d k h =
     record {
       step = record {
         moved =
-            ap (λ f. piped [] s (l.right.does f (right_state l s)) (base_point l.base) (left_does l)) w.1
-            ∙ ap (λ r. piped [] s r (base_point l.base) (left_does l)) (l.right.giving v (right_state l s))
-            ∙ holds-within p.ticks (limit s) (Gives (record { value = v; at = p }) (piped [] s r (base_point l.base) (left_does l))) le
-            ∙ ap (λ p. Gives (record { value = v; at = p }) (piped [] s r (base_point l.base) (left_does l))) (over-point (base_point l.base) (point (right_state l s)) s' a b d)
-            ∙ ap (Gives (record { value = v; at = point s' })) (piped-limit [] s s' r (base_point l.base) (left_does l) (sym lim) ∙ sym k)
+            ap (λ f. piped [] l.depth s (l.right.does f (right_state l s)) (base_point l.base) (left_does l)) w.1
+            ∙ ap (λ r. piped [] l.depth s r (base_point l.base) (left_does l)) (l.right.giving v (right_state l s))
+            ∙ holds-within p.ticks (limit s) (Gives (record { value = v; at = p }) (piped [] l.depth s r (base_point l.base) (left_does l))) le
+            ∙ ap (λ p. Gives (record { value = v; at = p }) (piped [] l.depth s r (base_point l.base) (left_does l))) (over-point (base_point l.base) (point (right_state l s)) s' a b d)
+            ∙ ap (Gives (record { value = v; at = point s' })) (piped-limit [] l.depth s s' r (base_point l.base) (left_does l) (sym lim) ∙ sym k)
             ∙ sym (ap (λ f. link_does m f s') g);
         stands = (v, g);
       };
@@ -119,7 +119,7 @@ pub right_ends : (l : Linked) (s s' : State) (f : Focus) (w : Stands Done l.righ
     l.base.ticks + l.right_progress.ticks ≤ limit s → s'.taken ≡ l.base.taken → s'.ticks ≡ l.base.ticks + l.right_progress.ticks → s'.left ≡ limit s - (l.base.ticks + l.right_progress.ticks) → s'.store ≡ s.store → link_goes l s ≡ Ends (Value w.0) s'
 right_ends l s s' f w le a b c d =
     let p : Point = over [] (base_point l.base) (point (right_state l s)) in
-    ap (λ r. piped [] s r (base_point l.base) (left_does l)) w.2
+    ap (λ r. piped [] l.depth s r (base_point l.base) (left_does l)) w.2
     ∙ holds-within p.ticks (limit s) (Ends (Value w.0) (at_point s p)) le
     ∙ ap (Ends (Value w.0)) (at-over s s' (base_point l.base) (point (right_state l s)) a b c d)
 
@@ -130,17 +130,17 @@ pub left_past : (l : Linked) (s : State) → Sides l s → l.right.awaits l.righ
 left_past l s h a lt =
     let w : (g : Val → Proc) × (right_does l s ≡ Needs (right_state l s) g) = l.right.awaiting l.right_progress.focus (right_state l s) h.right a in
     let r : Late l.right_progress.ticks (Needs (right_state l s) w.0) = subst (Late l.right_progress.ticks) w.1 (l.right.late l.right_progress.focus (right_state l s) h.right) in
-    ap (λ r. piped [] s r (base_point l.base) (left_does l)) w.1
-    ∙ pull-past [] s (λ v p l'. piped [] s (w.0 v) p l') (right_state l s) (left_does l) l.left_progress.ticks (l.left.late l.left_progress.focus (left_state l) h.left) lt
-    (λ v p l' b k. piped-past [] s (w.0 v) p l' l.right_progress.ticks l.left_progress.ticks (r.1 v) k (omega (arith, lt, b)) lt)
+    ap (λ r. piped [] l.depth s r (base_point l.base) (left_does l)) w.1
+    ∙ pull-past [] l.depth s (λ v p l'. piped [] l.depth s (w.0 v) p l') (right_state l s) (left_does l) l.left_progress.ticks (l.left.late l.left_progress.focus (left_state l) h.left) lt
+    (λ v p l' b k. piped-past [] l.depth s (w.0 v) p l' l.right_progress.ticks l.left_progress.ticks (r.1 v) k (omega (arith, lt, b)) lt)
 
 -- the end of the left side is that of the whole, where the right one needs an element
 pub left_ends : (l : Linked) (s s' : State) (v : Val) → Sides l s → l.right.awaits l.right_progress.focus ≡ true → left_does l ≡ Ends (Value v) (left_state l) →
-    l.left_progress.ticks + l.right_progress.ticks ≤ limit s → s'.taken ≡ l.left_progress.taken → s'.ticks ≡ l.left_progress.ticks + l.right_progress.ticks → s'.left ≡ limit s - (l.left_progress.ticks + l.right_progress.ticks) → s'.store ≡ s.store → link_goes l s ≡ Ends (Value v) s'
+    l.left_progress.ticks + l.right_progress.ticks ≤ limit s → s'.taken ≡ l.left_progress.taken → s'.ticks ≡ l.left_progress.ticks + l.right_progress.ticks → s'.left ≡ limit s - (l.left_progress.ticks + l.right_progress.ticks) → s'.store ≡ take l.depth s.store → link_goes l s ≡ Ends (Value v) s'
 left_ends l s s' v h a e le b c d k =
     let w : (g : Val → Proc) × (right_does l s ≡ Needs (right_state l s) g) = l.right.awaiting l.right_progress.focus (right_state l s) h.right a in
-    let p : Point = over [] (point (left_state l)) (point (right_state l s)) in
-    ap (λ r. piped [] s r (base_point l.base) (left_does l)) w.1
-    ∙ ap (λ q. piped [] s (Needs (right_state l s) w.0) (base_point l.base) q) e
+    let p : Point = over [] (point (left_state l)) (waiting l.depth (Value v) (point (right_state l s))) in
+    ap (λ r. piped [] l.depth s r (base_point l.base) (left_does l)) w.1
+    ∙ ap (λ q. piped [] l.depth s (Needs (right_state l s) w.0) (base_point l.base) q) e
     ∙ holds-within p.ticks (limit s) (Ends (Value v) (at_point s p)) le
-    ∙ ap (Ends (Value v)) (at-over s s' (point (left_state l)) (point (right_state l s)) b c d k)
+    ∙ ap (Ends (Value v)) (at-over s s' (point (left_state l)) (waiting l.depth (Value v) (point (right_state l s))) b c d k)

@@ -1,5 +1,5 @@
 -- Two sides of a composition.
-use Rattle.std.specs.Prelude.{◌≡◌, refl, ◌+◌, List, []}
+use Rattle.std.specs.Prelude.{ℕ, ◌≡◌, refl, ◌+◌, List, [], length}
 use Rattle.std.proofs.Common.{ap, sym, ◌∙◌}
 use Rattle.zir_bit_tree.specs.declared.value.Slot.{Slot}
 use Rattle.zir_bit_meaning.specs.Store.{merge}
@@ -29,23 +29,24 @@ over-counts b c p e f =
     ∙ ap (λ st. record { taken = c.taken; ticks = c.ticks + p.ticks; store = st }) (merge-none b.store p.store ∙ sym (merge-none c.store p.store))
 
 -- of the base only the counts matter
-pub piped-counts : (s : State) (r : Proc) (b c : Point) (l : Proc) → b.taken ≡ c.taken → b.ticks ≡ c.ticks → piped [] s r b l ≡ piped [] s r c l
-piped-counts s (Gives o r) b c l e f =
-    ap (λ p. inside s p (Gives (record { value = o.value; at = p }) (piped [] s r b l))) (over-counts b c o.at e f)
-    ∙ ap (λ q. inside s (over [] c o.at) (Gives (record { value = o.value; at = over [] c o.at }) q)) (piped-counts s r b c l e f)
-piped-counts s (Ends x s2) b c l e f = ap (λ p. inside s p (end_proc x (at_point s p))) (over-counts b c (point s2) e f)
-piped-counts s (Needs s2 g) b c l e f = refl
+pub piped-counts : (d : ℕ) (s : State) (r : Proc) (b c : Point) (l : Proc) → b.taken ≡ c.taken → b.ticks ≡ c.ticks → piped [] d s r b l ≡ piped [] d s r c l
+piped-counts d s (Gives o r) b c l e f =
+    ap (λ p. inside s p (Gives (record { value = o.value; at = p }) (piped [] d s r b l))) (over-counts b c o.at e f)
+    ∙ ap (λ q. inside s (over [] c o.at) (Gives (record { value = o.value; at = over [] c o.at }) q)) (piped-counts d s r b c l e f)
+piped-counts d s (Ends x s2) b c l e f = ap (λ p. inside s p (end_proc x (at_point s p))) (over-counts b c (point s2) e f)
+piped-counts d s (Needs s2 g) b c l e f = refl
 
 -- both sides have begun
-pub link_begins : (a a' b b' : Meant) (lp rp : Progress) (ls : List Slot) (s s1 s2 s' : State) → s1 ≡ s → s2 ≡ fresh s → limit s' ≡ limit s →
+pub link_begins : (a a' b b' : Meant) (lp rp : Progress) (ls : List Slot) (d : ℕ) (s s1 s2 s' : State) → d ≡ length s.store → s1 ≡ s → s2 ≡ fresh s → limit s' ≡ limit s →
     proc a.what s1 ≡ a'.does lp.focus (state_of lp ls) → proc b.what s2 ≡ b'.does rp.focus (state_of rp s'.store) →
-    piped (assigns a.what) s (proc b.what (fresh s)) (point s) (proc a.what s)
-    ≡ piped [] s' (b'.does rp.focus (state_of rp s'.store)) (record { taken = s.taken; ticks = s.ticks; store = [] }) (a'.does lp.focus (state_of lp ls))
-link_begins a a' b b' lp rp ls s s1 s2 s' e f g m n =
-    ap (λ ids. piped ids s (proc b.what (fresh s)) (point s) (proc a.what s)) (assigns-none a.what)
-    ∙ ap (λ t. piped [] s (proc b.what t) (point s) (proc a.what s)) (sym f)
-    ∙ ap (λ t. piped [] s (proc b.what s2) (point s) (proc a.what t)) (sym e)
-    ∙ ap (λ r. piped [] s r (point s) (proc a.what s1)) n
-    ∙ ap (λ l. piped [] s (b'.does rp.focus (state_of rp s'.store)) (point s) l) m
-    ∙ piped-counts s (b'.does rp.focus (state_of rp s'.store)) (point s) (record { taken = s.taken; ticks = s.ticks; store = [] }) (a'.does lp.focus (state_of lp ls)) refl refl
-    ∙ piped-limit [] s s' (b'.does rp.focus (state_of rp s'.store)) (record { taken = s.taken; ticks = s.ticks; store = [] }) (a'.does lp.focus (state_of lp ls)) (sym g)
+    piped (assigns a.what) (length s.store) s (proc b.what (fresh s)) (point s) (proc a.what s)
+    ≡ piped [] d s' (b'.does rp.focus (state_of rp s'.store)) (record { taken = s.taken; ticks = s.ticks; store = [] }) (a'.does lp.focus (state_of lp ls))
+link_begins a a' b b' lp rp ls d s s1 s2 s' c e f g m n =
+    ap (λ ids. piped ids (length s.store) s (proc b.what (fresh s)) (point s) (proc a.what s)) (assigns-none a.what)
+    ∙ ap (λ d. piped [] d s (proc b.what (fresh s)) (point s) (proc a.what s)) (sym c)
+    ∙ ap (λ t. piped [] d s (proc b.what t) (point s) (proc a.what s)) (sym f)
+    ∙ ap (λ t. piped [] d s (proc b.what s2) (point s) (proc a.what t)) (sym e)
+    ∙ ap (λ r. piped [] d s r (point s) (proc a.what s1)) n
+    ∙ ap (λ l. piped [] d s (b'.does rp.focus (state_of rp s'.store)) (point s) l) m
+    ∙ piped-counts d s (b'.does rp.focus (state_of rp s'.store)) (point s) (record { taken = s.taken; ticks = s.ticks; store = [] }) (a'.does lp.focus (state_of lp ls)) refl refl
+    ∙ piped-limit [] d s s' (b'.does rp.focus (state_of rp s'.store)) (record { taken = s.taken; ticks = s.ticks; store = [] }) (a'.does lp.focus (state_of lp ls)) (sym g)

@@ -77,23 +77,23 @@ giving_of Spent v h = absurd (cc)
 
 -- the right side takes the left side's output
 pub hands : (l : Linked) (s s' : State) (v : Val) (r' : Proc) (j : Option Val) (b : Point) → given_value l.left_progress.focus ≡ Some v → Fed (Some v) j (right_does l s) r' → j ≡ None → limit s' ≡ limit s →
-    b.taken ≡ l.left_progress.taken → b.ticks ≡ l.left_progress.ticks → link_goes l s ≡ piped [] s' r' b (l.left.does Given (left_state l))
+    b.taken ≡ l.left_progress.taken → b.ticks ≡ l.left_progress.ticks → link_goes l s ≡ piped [] l.depth s' r' b (l.left.does Given (left_state l))
 hands l s s' v r' j b e w z lim bt bk =
     let left : Proc = l.left.does Given (left_state l) in
     let gives : left_does l ≡ Gives (record { value = v; at = point (left_state l) }) left = ap (λ f. l.left.does f (left_state l)) (giving_of l.left_progress.focus v e) ∙ l.left.giving v (left_state l) in
-    fed_right [] s (base_point l.base) (record { value = v; at = point (left_state l) }) (right_does l s) r' (left_does l) left gives (subst (λ j. Fed (Some v) j (right_does l s) r') z w)
-    ∙ piped-counts s r' (point (left_state l)) b left (sym bt) (sym bk)
-    ∙ piped-limit [] s s' r' b left (sym lim)
+    fed_right [] l.depth s (base_point l.base) (record { value = v; at = point (left_state l) }) (right_does l s) r' (left_does l) left gives (subst (λ j. Fed (Some v) j (right_does l s) r') z w)
+    ∙ piped-counts l.depth s r' (point (left_state l)) b left (sym bt) (sym bk)
+    ∙ piped-limit [] l.depth s s' r' b left (sym lim)
 
 -- the left side takes what the whole is offered
-pub offers : (l : Linked) (s : State) (i j : Option Val) (q : Proc) → goes_sound l s ≡ true → l.waits ≡ Both → Fed i j (left_does l) q → Fed i j (link_goes l s) (piped [] s (right_does l s) (base_point l.base) q)
+pub offers : (l : Linked) (s : State) (i j : Option Val) (q : Proc) → goes_sound l s ≡ true → l.waits ≡ Both → Fed i j (left_does l) q → Fed i j (link_goes l s) (piped [] l.depth s (right_does l s) (base_point l.base) q)
 offers l s i j q h e w =
     let k : Sound l s = sound-parts l s h in
     let b : BothWait l s = both-wait l s (ap (λ w. waits_sound w l s) (sym e) ∙ k.waits) in
     let f : lifted l ≡ l.left_progress.ticks + l.right_progress.ticks = ap (λ w. floor_at w l.base l.left_progress + l.right_progress.ticks) e in
     let r : (g : Val → Proc) × (right_does l s ≡ Needs (right_state l s) g) = l.right.awaiting l.right_progress.focus (right_state l s) k.right b.right in
     let m : (g : Val → Proc) × (left_does l ≡ Needs (left_state l) g) = l.left.awaiting l.left_progress.focus (left_state l) k.left b.left in
-    fed_left i j [] s (right_state l s) r.0 (base_point l.base) (right_does l s) (left_does l) q r.1
+    fed_left i j [] l.depth s (right_state l s) r.0 (base_point l.base) (right_does l s) (left_does l) q r.1
     (λ s1 g n. let same : s1 ≡ left_state l = needs_state s1 (left_state l) g m.0 (sym n ∙ m.1) in
     subst (λ s1. s1.ticks + l.right_progress.ticks ≤ limit s) (sym same) (omega (arith, b.ticks, f))) w
   where

@@ -53,7 +53,7 @@ one_loop l = record { body = l.body; place = l.place }
 
 -- two sides that are understood
 abbrev pub one_link : Link-F Meant Linked Looped Held → Linked
-one_link l = record { left = l.left; right = l.right; left_progress = l.left_progress; left_store = l.left_store.items; right_progress = l.right_progress; base = l.base; waits = l.waits; place = l.place }
+one_link l = record { left = l.left; right = l.right; left_progress = l.left_progress; left_store = l.left_store.items; right_progress = l.right_progress; base = l.base; depth = l.depth; waits = l.waits; place = l.place }
 
 -- what a node means
 abbrev pub meant : Node → Meant
@@ -69,7 +69,7 @@ looped l = record { body = meant l.body; place = l.place }
 
 -- what two sides mean
 abbrev pub linked : Link → Linked
-linked l = record { left = meant l.left; right = meant l.right; left_progress = l.left_progress; left_store = l.left_store.items; right_progress = l.right_progress; base = l.base; waits = l.waits; place = l.place }
+linked l = record { left = meant l.left; right = meant l.right; left_progress = l.left_progress; left_store = l.left_store.items; right_progress = l.right_progress; base = l.base; depth = l.depth; waits = l.waits; place = l.place }
 
 -- the component that a node runs
 abbrev pub comp_of : Node → Comp

@@ -179,7 +179,7 @@ four a b m n i j p q e f = both (a && b && nat_eq m n) (nat_eq i j) (both (a && 
 pub late-waiting : (w : Waits) (l : Linked) (s : State) → l.waits ≡ w → Sound l s → Late s.ticks (link_goes l s)
 late-waiting Neither l s e h =
     let f : lifted l ≡ l.base.ticks + l.right_progress.ticks = ap (λ w. floor_at w l.base l.left_progress + l.right_progress.ticks) e in
-    late-piped [] s (right_does l s) (base_point l.base) (left_does l) l.right_progress.ticks l.left_progress.ticks s.ticks
+    late-piped [] l.depth s (right_does l s) (base_point l.base) (left_does l) l.right_progress.ticks l.left_progress.ticks s.ticks
     (l.right.late l.right_progress.focus (right_state l s) h.right) (l.left.late l.left_progress.focus (left_state l) h.left) (omega (arith, f, h.whole)) (omega (arith, f, h.whole, h.base))
 late-waiting Right l s e h =
     let f : lifted l ≡ l.left_progress.ticks + l.right_progress.ticks = ap (λ w. floor_at w l.base l.left_progress + l.right_progress.ticks) e in
@@ -189,17 +189,17 @@ late-waiting Right l s e h =
     late-needing l s h a f =
         let w : (g : Val → Proc) × (right_does l s ≡ Needs (right_state l s) g) = l.right.awaiting l.right_progress.focus (right_state l s) h.right a in
         let r : Late l.right_progress.ticks (Needs (right_state l s) w.0) = subst (Late l.right_progress.ticks) w.1 (l.right.late l.right_progress.focus (right_state l s) h.right) in
-        subst (λ r. Late s.ticks (piped [] s r (base_point l.base) (left_does l))) (sym w.1)
-        (late-pull [] s (λ v p l'. piped [] s (w.0 v) p l') (right_state l s) (left_does l) l.left_progress.ticks s.ticks (l.left.late l.left_progress.focus (left_state l) h.left) (omega (arith, f, h.whole))
-        (λ v p l' b k. late-piped [] s (w.0 v) p l' l.right_progress.ticks l.left_progress.ticks s.ticks (r.1 v) k (omega (arith, f, h.whole, b)) (omega (arith, f, h.whole))))
+        subst (λ r. Late s.ticks (piped [] l.depth s r (base_point l.base) (left_does l))) (sym w.1)
+        (late-pull [] l.depth s (λ v p l'. piped [] l.depth s (w.0 v) p l') (right_state l s) (left_does l) l.left_progress.ticks s.ticks (l.left.late l.left_progress.focus (left_state l) h.left) (omega (arith, f, h.whole))
+        (λ v p l' b k. late-piped [] l.depth s (w.0 v) p l' l.right_progress.ticks l.left_progress.ticks s.ticks (r.1 v) k (omega (arith, f, h.whole, b)) (omega (arith, f, h.whole))))
 late-waiting Both l s e h =
     let f : lifted l ≡ l.left_progress.ticks + l.right_progress.ticks = ap (λ w. floor_at w l.base l.left_progress + l.right_progress.ticks) e in
     let a : l.right.awaits l.right_progress.focus ≡ true = right-awaits Both l s (λ k. absurd (cc)) (ap (λ w. waits_sound w l s) (sym e) ∙ h.waits) in
     let w : (g : Val → Proc) × (right_does l s ≡ Needs (right_state l s) g) = l.right.awaiting l.right_progress.focus (right_state l s) h.right a in
     let r : Late l.right_progress.ticks (Needs (right_state l s) w.0) = subst (Late l.right_progress.ticks) w.1 (l.right.late l.right_progress.focus (right_state l s) h.right) in
-    subst (λ r. Late s.ticks (piped [] s r (base_point l.base) (left_does l))) (sym w.1)
-    (late-pull [] s (λ v p l'. piped [] s (w.0 v) p l') (right_state l s) (left_does l) l.left_progress.ticks s.ticks (l.left.late l.left_progress.focus (left_state l) h.left) (omega (arith, f, h.whole))
-    (λ v p l' b k. late-piped [] s (w.0 v) p l' l.right_progress.ticks l.left_progress.ticks s.ticks (r.1 v) k (omega (arith, f, h.whole, b)) (omega (arith, f, h.whole))))
+    subst (λ r. Late s.ticks (piped [] l.depth s r (base_point l.base) (left_does l))) (sym w.1)
+    (late-pull [] l.depth s (λ v p l'. piped [] l.depth s (w.0 v) p l') (right_state l s) (left_does l) l.left_progress.ticks s.ticks (l.left.late l.left_progress.focus (left_state l) h.left) (omega (arith, f, h.whole))
+    (λ v p l' b k. late-piped [] l.depth s (w.0 v) p l' l.right_progress.ticks l.left_progress.ticks s.ticks (r.1 v) k (omega (arith, f, h.whole, b)) (omega (arith, f, h.whole))))
 
 -- two sides that are sound
 pub goes-late : (l : Linked) (s : State) → goes_sound l s ≡ true → Late s.ticks (link_goes l s)
@@ -270,13 +270,13 @@ is-both Right h = absurd (cc)
 is-both Both h = refl
 
 -- the whole needs an element where it stands
-needs-here : (s : State) (r l : Proc) (s2 s1 : State) (f g : Val → Proc) (b : Point) → r ≡ Needs s2 f → l ≡ Needs s1 g → s.ticks ≡ s1.ticks + s2.ticks → s.taken ≡ s1.taken → s2.store ≡ s.store → (k : Val → Proc) × (piped [] s r b l ≡ Needs s k)
-needs-here s r l s2 s1 f g b e h t k st = (
-  (λ x. pull [] s (λ v p l'. piped [] s (f v) p l') s2 (g x)),
-  ap (λ r. piped [] s r b l) e ∙ ap (λ l. piped [] s (Needs s2 f) b l) h
-      ∙ ap (λ n. holds (nat_le n (limit s)) (Needs (at_point s (over [] (point s1) (point s2))) (λ x. pull [] s (λ v p l'. piped [] s (f v) p l') s2 (g x)))) (sym t)
+needs-here : (d : ℕ) (s : State) (r l : Proc) (s2 s1 : State) (f g : Val → Proc) (b : Point) → r ≡ Needs s2 f → l ≡ Needs s1 g → s.ticks ≡ s1.ticks + s2.ticks → s.taken ≡ s1.taken → s2.store ≡ s.store → (k : Val → Proc) × (piped [] d s r b l ≡ Needs s k)
+needs-here d s r l s2 s1 f g b e h t k st = (
+  (λ x. pull [] d s (λ v p l'. piped [] d s (f v) p l') s2 (g x)),
+  ap (λ r. piped [] d s r b l) e ∙ ap (λ l. piped [] d s (Needs s2 f) b l) h
+      ∙ ap (λ n. holds (nat_le n (limit s)) (Needs (at_point s (over [] (point s1) (point s2))) (λ x. pull [] d s (λ v p l'. piped [] d s (f v) p l') s2 (g x)))) (sym t)
       ∙ holds-within s.ticks (limit s) _ (omega arith)
-      ∙ ap (λ s'. Needs s' (λ x. pull [] s (λ v p l'. piped [] s (f v) p l') s2 (g x))) (same s s1 s2 t k st),
+      ∙ ap (λ s'. Needs s' (λ x. pull [] d s (λ v p l'. piped [] d s (f v) p l') s2 (g x))) (same s s1 s2 t k st),
 )
   where
     same : (s s1 s2 : State) → s.ticks ≡ s1.ticks + s2.ticks → s.taken ≡ s1.taken → s2.store ≡ s.store → at_point s (over [] (point s1) (point s2)) ≡ s
@@ -296,7 +296,7 @@ goes_awaiting l s h a =
     let f : lifted l ≡ l.left_progress.ticks + l.right_progress.ticks = ap (λ w. floor_at w l.base l.left_progress + l.right_progress.ticks) e in
     let r : (g : Val → Proc) × (right_does l s ≡ Needs (right_state l s) g) = l.right.awaiting l.right_progress.focus (right_state l s) w.right b.right in
     let m : (g : Val → Proc) × (left_does l ≡ Needs (left_state l) g) = l.left.awaiting l.left_progress.focus (left_state l) w.left b.left in
-    needs-here s (right_does l s) (left_does l) (right_state l s) (left_state l) r.0 m.0 (base_point l.base) r.1 m.1 (b.ticks ∙ f) b.taken refl
+    needs-here l.depth s (right_does l s) (left_does l) (right_state l s) (left_state l) r.0 m.0 (base_point l.base) r.1 m.1 (b.ticks ∙ f) b.taken refl
 
 -- a composition whose sides both wait
 pub link_awaiting : (l : Linked) (f : Focus) (s : State) → link_sound l f s ≡ true → link_awaits l f ≡ true → (g : Val → Proc) × (link_does l f s ≡ Needs s g)

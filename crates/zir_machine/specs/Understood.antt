@@ -1,5 +1,5 @@
 -- What a node means where the nodes inside it are understood already.
-use Rattle.std.specs.Prelude.{ℕ, zero, suc, ◌≡◌, ◌+◌, List, [], ◌∷◌, Option, Bool, true, false, ◌&&◌, nat_le, nat_eq, None, is_none}
+use Rattle.std.specs.Prelude.{ℕ, zero, suc, ◌≡◌, ◌+◌, List, [], ◌∷◌, Option, Bool, true, false, ◌&&◌, nat_le, nat_eq, None, is_none, length}
 use Rattle.zir_bit_tree.specs.declared.value.Val.{Val}
 use Rattle.zir_bit_tree.specs.declared.value.Val.TheVariants.{Unit as UnitVal}
 use Rattle.zir_bit_tree.specs.declared.value.Slot.{Slot}
@@ -69,7 +69,7 @@ pub record Looped : Type 0 where
   pub body : Meant
   pub place : Place
 
--- two sides, understood, and where they stand
+-- two sides, understood, where they stand, and how many names were in scope before both
 pub record Linked : Type 0 where
   pub left : Meant
   pub right : Meant
@@ -77,6 +77,7 @@ pub record Linked : Type 0 where
   pub left_store : List Slot
   pub right_progress : Progress
   pub base : Base
+  pub depth : ℕ
   pub waits : Waits
   pub place : Place
 
@@ -147,11 +148,11 @@ right_does l s = l.right.does l.right_progress.focus (right_state l s)
 
 -- what the two sides still do: of s only the limit and the store count
 abbrev pub link_goes : Linked → State → Proc
-link_goes l s = piped [] s (right_does l s) (base_point l.base) (left_does l)
+link_goes l s = piped [] l.depth s (right_does l s) (base_point l.base) (left_does l)
 
 -- what they do from the beginning
 abbrev pub link_starts : Linked → State → Proc
-link_starts l s = piped (assigns l.left.what) s (proc l.right.what (fresh s)) (point s) (proc l.left.what s)
+link_starts l s = piped (assigns l.left.what) (length s.store) s (proc l.right.what (fresh s)) (point s) (proc l.left.what s)
 
 -- a composition that goes on, ended, gives, or is out of ticks
 abbrev pub link_does : Linked → Focus → State → Proc

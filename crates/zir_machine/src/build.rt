@@ -122,6 +122,7 @@ pub fn build(alloc: Global, c: &Comp) -> Result<Node, AllocError>
                     left_store: Vec::new(alloc),
                     right_progress: fresh(),
                     base: Base { taken: 0, ticks: 0 },
+                    depth: 0,
                     waits: Waits::Neither,
                     place: *place,
                 },

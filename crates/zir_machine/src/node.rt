@@ -51,7 +51,8 @@ pub struct Loop {
     pub place: Place,
 }
 
-/// The two sides of a composition, and where the left side stood at the last output that the right side took.
+/// The two sides of a composition, where the left side stood at the last output that the right side took, and how many
+/// variables were in scope when both began.
 #[cycle(node)]
 #[derive(Drop)]
 pub struct Link {
@@ -61,6 +62,7 @@ pub struct Link {
     pub left_store: Vec<Slot>,
     pub right_progress: Progress,
     pub base: Base,
+    pub depth: usize,
     pub waits: Waits,
     pub place: Place,
 }
@@ -271,6 +273,7 @@ impl Link {
             taken: progress.taken,
             ticks: progress.ticks,
         };
+        self.depth = depth(store);
         self.left_progress
             .begin(progress.taken, progress.ticks, progress.left);
         self.right_progress.begin(0, 0, progress.left);
@@ -805,21 +808,21 @@ impl Link {
     }
 
     /// What the left side's answer is for the whole, while the right side needs an element. Nothing where the left
-    /// side gives one, or needs one itself.
+    /// side gives one, or needs one itself. Where it ended, the names that the right side brought into scope leave.
     fn settle_left(
         &mut self,
         answer: Answer,
         progress: &mut Progress,
-        store: &Vec<Slot>,
+        store: &mut Vec<Slot>,
         fuel: &mut u32,
     ) -> Option<Answer>
         requires going { is_going progress.old.focus ≡ true }
-        requires sides { Sides (linked self.old) (state_of progress.old store.now.items) }
+        requires sides { Sides (linked self.old) (state_of progress.old store.old.items) }
         requires stands { (j : Option Val) × Stands answer (linked self.old).left_progress.focus (left_state (linked self.old)) j (left_does (linked self.old)) }
         requires asks { answer ≡ Answer.Need → (linked self.old).left.awaits (linked self.old).left_progress.focus ≡ true }
         requires right { (linked self.old).right.awaits (linked self.old).right_progress.focus ≡ true }
         requires whole { progress.old.ticks ≤ (linked self.old).left_progress.ticks + (linked self.old).right_progress.ticks }
-        ensures asked { Asked result None None (link_goes (linked self.old) (state_of progress.old store.now.items)) (linked self.new) progress.new.focus (state_of progress.new store.now.items) }
+        ensures asked { Asked result None None (link_goes (linked self.old) (state_of progress.old store.old.items)) (linked self.new) progress.new.focus (state_of progress.new store.new.items) }
         ensures settled { SettledLeft answer result (linked self.old) (linked self.new) progress.old progress.new fuel.old fuel.new }
         ensures kept { link_comp (linked self.new) ≡ link_comp (linked self.old) }
     {
@@ -838,6 +841,7 @@ impl Link {
                 None
             }
             Answer::Done => {
+                store.truncate(self.depth);
                 progress.focus = self.left_progress.focus;
                 Some(Answer::Done)
             }

@@ -269,3 +269,17 @@ unfolding shape-the_row-Val-0 hidden-the_row-Val-0 shape-the_row-Expr-0 hidden-t
     shape-the_row-Stmt-0 hidden-the_row-Stmt-0 shape-the_row-Member-1 hidden-the_row-Member-1 shape-the_row-Comp-0 hidden-the_row-Comp-0 hidden
     int_wrap digits
 left_starves = refl
+
+-- where the left side ends, the names of the right side's block leave:
+--     let comp main = read[int8] >>> repeat ({ x <- take; emit x } >>> repeat { y <- take; emit y; z <- take; emit z }) >>> write[int8]
+abbrev names_leave_core : Core
+names_leave_core = program (Repeat (Pipe Serial (Block (Bind (id 1) (Take here) ∷ Run (Emit (Variable (id 1)) here) ∷ []) here) (Repeat (Block (Bind
+    (id 2) (Take here) ∷ Run (Emit (Variable (id 2)) here) ∷ Bind (id 3) (Take here) ∷ Run (Emit (Variable (id 3)) here) ∷ []) here) here) here) here)
+    (plain Int8) (plain Int8) None
+
+pub names_leave : answer_of BinaryFormat 100 (loaded (codes "p") names_leave_core) [] (5 ∷ 7 ∷ []) ≡ answers 0 (5 ∷ 7 ∷ [])
+    (codes "input ended\ntaken 2\nwritten 2\n")
+unfolding shape-the_row-Val-0 hidden-the_row-Val-0 shape-the_row-Expr-0 hidden-the_row-Expr-0 shape-the_row-Expr-1 hidden-the_row-Expr-1
+    shape-the_row-Stmt-0 hidden-the_row-Stmt-0 shape-the_row-Member-1 hidden-the_row-Member-1 shape-the_row-Comp-0 hidden-the_row-Comp-0 hidden
+    int_wrap digits
+names_leave = refl

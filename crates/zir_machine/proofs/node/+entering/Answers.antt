@@ -7,8 +7,8 @@ use Rattle.zir_machine.proofs.node.+entering.Goals as goal
 
 pub Link::enter-returns-clause-enters : goal.Link::enter-returns-clause-enters
 Link::enter-returns-clause-enters t c =
-    link_begins (meant c.args.self.now.left) (meant c.enter.new.self) (meant c.args.self.now.right) (meant c.enter-2.new.self) c.enter.new.progress c.enter-2.new.progress c.enter.new.store.items
-    (state_of c.args.progress.now c.args.store.now.items) (state_of c.begin.new.self c.copy_slots.new.to.items) (state_of c.begin-2.new.self c.args.store.now.items) (state_of c.args.progress.now c.enter-2.new.store.items)
+    link_begins (meant c.args.self.now.left) (meant c.enter.new.self) (meant c.args.self.now.right) (meant c.enter-2.new.self) c.enter.new.progress c.enter-2.new.progress c.enter.new.store.items c.depth-self.result
+    (state_of c.args.progress.now c.args.store.now.items) (state_of c.begin.new.self c.copy_slots.new.to.items) (state_of c.begin-2.new.self c.args.store.now.items) (state_of c.args.progress.now c.enter-2.new.store.items) c.depth-self.ensures
     (same_state _ _ c.begin.ensures.taken c.begin.ensures.ticks c.begin.ensures.left c.in_ok-copy_slots.ensures)
     (same_state _ _ c.begin-2.ensures.taken c.begin-2.ensures.ticks c.begin-2.ensures.left refl)
     refl c.in_ok-enter.ensures.enters c.in_ok-enter-2.ensures.enters

@@ -178,6 +178,6 @@ Link::offer_left-returns-clause-asked t c =
     let l = linked c.args.self.now in
     let s = state_of c.args.progress.now c.args.store.now.items in
     let taken = c.in_ok-answer.ensures.takes (both_waiting l s c.requires.waits c.requires.sound).left in
-    asked_taken c.settle_left.result c.args.offer.now c.step.new.offer (link_goes l s) _ (linked c.settle_left.new.self) c.settle_left.new.progress.focus (state_of c.settle_left.new.progress c.args.store.now.items) taken
+    asked_taken c.settle_left.result c.args.offer.now c.step.new.offer (link_goes l s) _ (linked c.settle_left.new.self) c.settle_left.new.progress.focus (state_of c.settle_left.new.progress c.settle_left.new.store.items) taken
     (offers l s c.args.offer.now c.step.new.offer (proc_in c.step.new.self c.step.new.progress.focus (state_of c.step.new.progress c.step.new.store.items)) c.requires.sound c.requires.waits c.in_ok-answer.ensures.step.moved)
     c.settle_left.ensures.asked

@@ -1,4 +1,4 @@
-use Rattle.std.proofs.Common.{◌∙◌, ap, sym, subst, refl, arith}
+use Rattle.std.proofs.Common.{◌∙◌, ap, sym, subst, arith}
 use Rattle.std.specs.Prelude.{Option, [], ◌+◌}
 use Rattle.zir_bit_tree.specs.declared.value.Val.{Val}
 use Rattle.zir_machine.specs.Standing.{is_going, state_of, base_point}
@@ -17,7 +17,7 @@ returns-then-not-rise-clause-asked c =
 pub returns-in-Need-clause-asked : goal.returns-in-Need-clause-asked
 returns-in-Need-clause-asked c =
     goes_on (linked c.args.self.now) _ (state_of c.args.progress.now c.args.store.now.items) (state_of c.rise.new.self c.args.store.now.items) c.rise.new.self.focus (ap is_going c.if-not-rise.ensures.4 ∙ c.requires.going)
-    (piped-limit [] (state_of c.args.progress.now c.args.store.now.items) (state_of c.rise.new.self c.args.store.now.items) (right_does (linked c.args.self.now) (state_of c.args.progress.now c.args.store.now.items)) (base_point c.args.self.now.base) (left_does (linked c.args.self.now)) (sym (same_limit (state_of c.args.progress.now c.args.store.now.items) (state_of c.rise.new.self c.args.store.now.items) _ c.if-not-rise.ensures.0 c.if-not-rise.ensures.2 c.if-not-rise.ensures.3)))
+    (piped-limit [] c.args.self.now.depth (state_of c.args.progress.now c.args.store.now.items) (state_of c.rise.new.self c.args.store.now.items) (right_does (linked c.args.self.now) (state_of c.args.progress.now c.args.store.now.items)) (base_point c.args.self.now.base) (left_does (linked c.args.self.now)) (sym (same_limit (state_of c.args.progress.now c.args.store.now.items) (state_of c.rise.new.self c.args.store.now.items) _ c.if-not-rise.ensures.0 c.if-not-rise.ensures.2 c.if-not-rise.ensures.3)))
     (record {
       right = c.requires.sides.right;
       left = c.requires.sides.left;
@@ -31,12 +31,12 @@ pub returns-in-Done-clause-asked : goal.returns-in-Done-clause-asked
 returns-in-Done-clause-asked c =
     let w = subst (λ a. (j : Option Val) × Stands a c.args.self.now.left_progress.focus (left_state (linked c.args.self.now)) j (left_does (linked c.args.self.now))) c.in-Done.is c.requires.stands in
     ended_answers (linked c.args.self.now) _ (state_of c.args.progress.now c.args.store.now.items) _ c.args.self.now.left_progress.focus w.1.0 w.1.1
-    (left_ends (linked c.args.self.now) (state_of c.args.progress.now c.args.store.now.items) _ w.1.0 c.requires.sides c.requires.right w.1.2 c.if-not-rise.ensures.0 c.if-not-rise.ensures.1 c.if-not-rise.ensures.2 c.if-not-rise.ensures.3 refl)
+    (left_ends (linked c.args.self.now) (state_of c.args.progress.now c.args.store.now.items) _ w.1.0 c.requires.sides c.requires.right w.1.2 c.if-not-rise.ensures.0 c.if-not-rise.ensures.1 c.if-not-rise.ensures.2 c.if-not-rise.ensures.3 c.truncate.ensures.items)
 
 pub returns-in-Yield-clause-asked : goal.returns-in-Yield-clause-asked
 returns-in-Yield-clause-asked c =
     skip_answers (linked c.args.self.now) _ (state_of c.args.progress.now c.args.store.now.items) (state_of c.rise.new.self c.args.store.now.items) c.rise.new.self.focus (ap is_going c.if-not-rise.ensures.4 ∙ c.requires.going)
-    (piped-limit [] (state_of c.args.progress.now c.args.store.now.items) (state_of c.rise.new.self c.args.store.now.items) (right_does (linked c.args.self.now) (state_of c.args.progress.now c.args.store.now.items)) (base_point c.args.self.now.base) (left_does (linked c.args.self.now)) (sym (same_limit (state_of c.args.progress.now c.args.store.now.items) (state_of c.rise.new.self c.args.store.now.items) _ c.if-not-rise.ensures.0 c.if-not-rise.ensures.2 c.if-not-rise.ensures.3)))
+    (piped-limit [] c.args.self.now.depth (state_of c.args.progress.now c.args.store.now.items) (state_of c.rise.new.self c.args.store.now.items) (right_does (linked c.args.self.now) (state_of c.args.progress.now c.args.store.now.items)) (base_point c.args.self.now.base) (left_does (linked c.args.self.now)) (sym (same_limit (state_of c.args.progress.now c.args.store.now.items) (state_of c.rise.new.self c.args.store.now.items) _ c.if-not-rise.ensures.0 c.if-not-rise.ensures.2 c.if-not-rise.ensures.3)))
     (record {
       right = c.requires.sides.right;
       left = c.requires.sides.left;

@@ -34,7 +34,7 @@ returns-in-Done-clause-asked c =
 pub returns-in-Skip-clause-asked : goal.returns-in-Skip-clause-asked
 returns-in-Skip-clause-asked c =
     skip_answers (linked c.args.self.now) _ (state_of c.args.progress.now c.args.store.now.items) (state_of c.rise.new.self c.args.store.now.items) c.rise.new.self.focus (ap is_going c.if-not-rise.ensures.4 ∙ c.requires.going)
-    (piped-limit [] (state_of c.args.progress.now c.args.store.now.items) (state_of c.rise.new.self c.args.store.now.items) (right_does (linked c.args.self.now) (state_of c.args.progress.now c.args.store.now.items)) (base_point c.args.self.now.base) (left_does (linked c.args.self.now)) (sym (same_limit (state_of c.args.progress.now c.args.store.now.items) (state_of c.rise.new.self c.args.store.now.items) _ c.if-not-rise.ensures.0 c.if-not-rise.ensures.2 c.if-not-rise.ensures.3)))
+    (piped-limit [] c.args.self.now.depth (state_of c.args.progress.now c.args.store.now.items) (state_of c.rise.new.self c.args.store.now.items) (right_does (linked c.args.self.now) (state_of c.args.progress.now c.args.store.now.items)) (base_point c.args.self.now.base) (left_does (linked c.args.self.now)) (sym (same_limit (state_of c.args.progress.now c.args.store.now.items) (state_of c.rise.new.self c.args.store.now.items) _ c.if-not-rise.ensures.0 c.if-not-rise.ensures.2 c.if-not-rise.ensures.3)))
     (record {
       right = c.requires.sides.right;
       left = c.requires.sides.left;
