@@ -6,8 +6,8 @@ use Rattle.zir_tree.specs.declared.stmt.Body.{Body}
 use Rattle.zir_tree.specs.declared.stmt.Return.{Return}
 use Rattle.zir_tree.specs.declared.comp.Turning.{Turning}
 use Rattle.zir_tree.specs.declared.comp.Turning.TheVariants.{While as WhileTurns, Until as UntilTurns}
-use Rattle.zir_tree.specs.declared.comp.Comp.{Comp, Take as TakeComp, Takes as TakesComp, Emit, Emits, Return as ReturnComp, Do, Repeat', While', Times', For', If', Map, Filter, Call, Block', Pipe', end_of-Comp, more_of-Comp}
-use Rattle.zir_tree.specs.declared.comp.Member.{Member, Bind, Var, Run as RunMember, Row_of-Member, end_of-Member, more_of-Member}
+use Rattle.zir_tree.specs.declared.comp.Comp.{Comp, Take as TakeComp, Takes as TakesComp, Emit, Emits, Return as ReturnComp, Do, Repeat', While', Times', For', If', Map, Filter, Call, Block', Pipe', end_of-Comp, more_of-Comp, Row_of-Member, end_of-Member, more_of-Member}
+use Rattle.zir_tree.specs.declared.comp.Member.{Bind, Var, Run as RunMember}
 use Rattle.zir_meaning.specs.Values.{type_of}
 use Rattle.zir_meaning.specs.Assigned.{Assigning}
 use Rattle.zir_shapes.specs.Offsets.{plain_type as plain, array_type as array_of}

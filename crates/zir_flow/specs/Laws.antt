@@ -4,14 +4,11 @@ use Rattle.zir_tree.specs.declared.value.Val.{Val}
 use Rattle.zir_tree.specs.declared.types.Ty.{Ty}
 use Rattle.zir_tree.specs.declared.comp.Comp.{Comp}
 use Rattle.zir_tree.specs.declared.program.Core.{Core}
-use Rattle.zir_tree.specs.declared.program.Instance.{Instance}
 use Rattle.zir_meaning.specs.Store.{Store}
 use Rattle.zir_meaning.specs.Trace.{State}
-use Rattle.zir_meaning.specs.Component.{Around}
 use Rattle.zir_meaning.specs.Instances.{around}
 use Rattle.zir_cells.specs.Cells.{cells_of}
-use Rattle.zir_laws.specs.Process.{Procs, proc}
-use Rattle.zir_laws.specs.Calls.{calls_of, acts}
+use Rattle.zir_laws.specs.Acts.{acts}
 use Rattle.zir_shapes.specs.Shapes.{Shaped}
 use Rattle.zir_expr.specs.Memory.{from_base}
 use Rattle.zir_code.specs.Scopes.{Scope}
@@ -55,9 +52,9 @@ pub record Starts (top base d n size : ℕ) (st : Setting) (g : Scope) (c : Comp
   pub held : Holds top base d n g th.memory s
   pub base_is : th.base ≡ base
   pub taken : th.taken ≡ s.taken % 2 ^ 64
-  pub deep : length th.calls + depth_of st c ≤ th.deep
+  pub depth : length th.calls + depth_of st c ≤ th.deep
   pub size_is : length th.memory.cells ≡ size
-  pub room : RoomFits size (shape_of st c) room
+  pub room_fits : RoomFits size (shape_of st c) room
 
 -- in a program whose instances have these entries, the code of a component that is well typed, with a stop behind it, plays what the component does
 abbrev pub ComponentsPlay : Type 0

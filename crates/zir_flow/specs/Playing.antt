@@ -18,9 +18,9 @@ pub record Watch : Type 1 where
   pub value : Val → Stage → Type 0
 
 -- the elements taken and the ticks of a point; 64 bits count the elements
-pub record At (p : Point) (taken ticks : ℕ) : Type 0 where
-  pub taken : p.taken % 2 ^ 64 ≡ taken
-  pub ticks : p.ticks ≡ ticks
+pub record PointIs (p : Point) (taken ticks : ℕ) : Type 0 where
+  pub elements : p.taken % 2 ^ 64 ≡ taken
+  pub used : p.ticks ≡ ticks
 
 -- within some turns a stage comes to this event
 pub record Comes (code : List Instruction) (s : Stage) (event : Turned) : Type 0 where
@@ -32,7 +32,7 @@ pub record GivesAt (w : Watch) (code : List Instruction) (s : Stage) (v : Val) (
   pub taken : ℕ
   pub ticks : ℕ
   pub comes : Comes code s (Giving (cells_of v) taken ticks s')
-  pub at : At p taken ticks
+  pub at : PointIs p taken ticks
   pub holds : w.holds s' p.store
 
 -- it needs an element at a point
@@ -40,7 +40,7 @@ pub record NeedsAt (w : Watch) (code : List Instruction) (s : Stage) (p : Point)
   pub taken : ℕ
   pub ticks : ℕ
   pub comes : Comes code s (Needing taken ticks s')
-  pub at : At p taken ticks
+  pub at : PointIs p taken ticks
   pub holds : w.holds s' p.store
 
 -- it ends with a value at a point
@@ -49,24 +49,23 @@ pub record EndsAt (w : Watch) (code : List Instruction) (s : Stage) (v : Val) (p
   pub ticks : ℕ
   pub last : Stage
   pub comes : Comes code s (Ended taken ticks last)
-  pub at : At p taken ticks
+  pub at : PointIs p taken ticks
   pub holds : w.holds last p.store
   pub value : w.value v last
 
--- it traps at a point
-pub record TrapsAt (w : Watch) (code : List Instruction) (s : Stage) (t : Trap) (p : Point) : Type 0 where
+-- it traps at a point; of what it holds then nothing is said
+pub record TrapsAt (code : List Instruction) (s : Stage) (t : Trap) (p : Point) : Type 0 where
   pub taken : ℕ
   pub ticks : ℕ
   pub last : Stage
   pub comes : Comes code s (Failed t taken ticks last)
-  pub at : At p taken ticks
-  pub holds : w.holds last p.store
+  pub at : PointIs p taken ticks
 
 -- it ends so
 abbrev pub PlaysEnd : Watch → List Instruction → End → State → Stage → Type 0
 PlaysEnd w code (Value v) s st = EndsAt w code st v (point s)
 PlaysEnd w code Starved s st = ⊥
-PlaysEnd w code (Trapped t) s st = TrapsAt w code st t (point s)
+PlaysEnd w code (Trapped t) s st = TrapsAt code st t (point s)
 PlaysEnd w code Spent s st = Comes code st Gone
 
 -- it comes to each event of a process, whatever elements it has

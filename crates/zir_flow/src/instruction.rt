@@ -4,6 +4,7 @@
 use sqlite_items::Items;
 use zir_expr::frame::Spot;
 use zir_expr::steps::Step;
+use zir_shared::Shared;
 
 /// A series of elements or outputs of one size, one behind the other: the cell that counts those that have come, where they stand, and how many they are.
 #[derive(Clone, Copy, Debug, PartialEq, Eq)]
@@ -60,7 +61,7 @@ pub enum Instruction {
     /// Back behind the call of the body that runs.
     Leave,
     /// A composition.
-    Pipe(Joint),
+    Pipe(Shared<Joint>),
     /// The end of a side, or of the program.
     Stop,
 }
