@@ -1,5 +1,5 @@
 -- What a stage does: a thread alone, or a composition of two stages in which it stands.
-use Rattle.std.specs.Prelude.{ℕ, zero, suc, ◌+◌, ◌-◌, ℤ, List, [], ◌∷◌, ◌++◌, Bool, true, false, take, drop, nat_le}
+use Rattle.std.specs.Prelude.{ℕ, zero, suc, ◌+◌, ◌-◌, ℤ, List, [], ◌∷◌, Bool, true, false, nat_le}
 use Rattle.zir_tree.specs.declared.ends.Trap.{Trap}
 use Rattle.zir_expr.specs.declared.frame.Spot.{Spot}
 use Rattle.zir_expr.specs.declared.frame.Spot.TheVariants.{Local}
@@ -30,9 +30,13 @@ pub data Turned : Type 0 where
   Failed : (t : Trap) (taken : ℕ) (ticks : ℕ) (s : Stage) → Turned
   Gone : Turned
 
--- the left side's memory: the cells in scope as they are, and behind them what it had
+-- the left side's memory: its own with the cells in scope as they are, and the same meter
 abbrev pub copied : ℕ → Memory → Memory → Memory
-copied k m spare = record m { cells = take k m.cells ++ drop k spare.cells }
+copied k m spare = written 0 (cells_from k 0 m) (record spare { used = m.used; limit = m.limit })
+
+-- a thread whose cells the right side of a composition works on
+abbrev pub emptied : Thread → Thread
+emptied th = record th { memory = record th.memory { cells = [] } }
 
 -- the left side where a composition begins
 abbrev pub left_begins : Joint → Thread → Memory → Thread
@@ -48,7 +52,7 @@ right_begins j th =
 -- a composition begins, where there is room
 abbrev pub joined : Joint → Thread → Room → Turned
 joined j th Closed = Gone
-joined j th (Open spare l r) = Going (Joined th j (Alone (left_begins j th spare) l) (Alone (right_begins j th) r) th.taken th.memory.used)
+joined j th (Open spare l r) = Going (Joined (emptied th) j (Alone (left_begins j th spare) l) (Alone (right_begins j th) r) th.taken th.memory.used)
 
 -- a stage that does what its thread does
 abbrev pub turned_by : Move → Room → Turned
