@@ -115,7 +115,7 @@ moved_by (Takes s k) th = either_move (nat_lt (come s th) s.count) (Wants th) (G
 moved_by (Give x n) th = Offers (cells_from n (place_of th.base x) th.memory) (onward 0 th)
 moved_by (Gives s) th =
     either_move (nat_lt (come s th) s.count)
-    (after_steps (ticked th.memory) (λ m. Offers (cells_from s.size (next_of s th) m) (record th { memory = counted_on s th m })) th)
+    (after_steps (ticked th.memory) (λ m. Offers (cells_from s.size (next_of s th) (counted_on s th m)) (record th { memory = counted_on s th m })) th)
     (Goes (onward 0 th))
 moved_by (Ahead k) th = Goes (onward k th)
 moved_by (Again k) th = Goes (backward k th)
@@ -135,14 +135,20 @@ move_if None th = Spends
 abbrev pub move : List Instruction → Thread → Move
 move code th = move_if (slice_get code th.place) th
 
--- the cells of an element go where the instruction has them
+-- one of two
+abbrev pub either_thread : Bool → Thread → Thread → Thread
+either_thread true a b = a
+either_thread false a b = b
+
+-- the cells of an element go where the instruction has them, if it wants one
 abbrev pub fed_by : Option Instruction → List ℤ → Thread → Thread
 fed_by None cells th = th
 fed_by (Some (Run steps)) cells th = th
 fed_by (Some Tick) cells th = th
 fed_by (Some (Take to)) cells th = record (next_with th (written (place_of th.base (Local to)) cells th.memory)) { taken = after th.taken }
 fed_by (Some (Takes s k)) cells th =
-    record (next_with th (counted_on s th (written (next_of s th) cells th.memory))) { taken = after th.taken }
+    either_thread (nat_lt (come s th) s.count)
+    (record (next_with th (counted_on s th (written (next_of s th) cells th.memory))) { taken = after th.taken }) th
 fed_by (Some (Give x n)) cells th = th
 fed_by (Some (Gives s)) cells th = th
 fed_by (Some (Ahead k)) cells th = th

@@ -1,0 +1,5 @@
+//! Runs the flat code of components: a stage goes on until its next event, and takes no memory after it was opened.
+#![tactic(auto)]
+
+pub mod calls;
+pub mod source;
