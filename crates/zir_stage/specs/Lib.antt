@@ -1,2 +1,3 @@
 pub mod Popped
 pub mod Sources
+pub mod Pausing

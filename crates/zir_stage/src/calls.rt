@@ -11,7 +11,7 @@ use zir_flow::instruction::Caller;
 pub const CALLS: usize = 256;
 
 /// Where the calls that a thread is in go on, the innermost first. It takes the memory for all of them when it is opened.
-#[derive(Debug, Drop)]
+#[derive(Drop)]
 pub struct Calls {
     callers: Vec<Caller>,
 }
