@@ -1,3 +1,5 @@
 pub mod Popped
 pub mod Sources
 pub mod Pausing
+pub mod Standing
+pub mod Coming

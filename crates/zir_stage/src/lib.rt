@@ -2,5 +2,7 @@
 #![tactic(auto)]
 
 pub mod calls;
+pub mod event;
 pub mod source;
 pub mod thread;
+pub mod stage;

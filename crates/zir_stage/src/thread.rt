@@ -8,6 +8,8 @@ ghost use Rattle.zir_flow.specs.declared.instruction.Instruction.TheVariants.{Gi
 ghost use Rattle.zir_stage.specs.Pausing.{moved_as, joint_at, joint_of, one_given, series_fed};
 ghost use Rattle.zir_stage.specs.Sources.{cells_in};
 
+mod sides;
+
 use crate::calls::Calls;
 use crate::source::{Source, write};
 use std::marker::Model;
