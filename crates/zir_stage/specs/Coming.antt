@@ -1,9 +1,12 @@
 -- What stages and threads come to within so many turns.
 use Rattle.std.specs.Prelude.{ℕ, ◌+◌, ◌<◌, List, Bool, true, false, Option, Some, None, ◌≡◌, nat_le}
 use Rattle.zir_flow.specs.declared.instruction.Instruction.{Instruction}
-use Rattle.zir_flow.specs.Threads.{Thread, move, cells_from}
-use Rattle.zir_flow.specs.Stages.{Stage as Standing, Alone, Room, Turned, Going, Giving, Needing, Ended, Failed, Gone as Over, turn, turned_on}
+use Rattle.zir_flow.specs.Threads.{Thread, move, cells_from, written}
+use Rattle.zir_flow.specs.Stages.{Stage as Standing, Alone, Room, Open, behind, brought_back, seen, room_of, Turned, Going, Giving, Needing, Ended, Failed, Gone as Over, turn, turned_on}
 use Rattle.zir_tree.specs.declared.ends.Stamp.{Stamp}
+use Rattle.zir_tree.specs.declared.ends.Trap.{Trap}
+use Rattle.zir_expr.specs.Memory.{from_base}
+use Rattle.zir_flow.specs.declared.instruction.Joint.{Joint}
 use Rattle.zir_stage.specs.declared.event.Offer.{Offer}
 use Rattle.zir_stage.specs.declared.event.Event.{Event}
 use Rattle.zir_stage.specs.declared.event.Event.TheVariants.{Gives, Needs, Ends, Traps, Gone}
@@ -56,7 +59,7 @@ Paced code n th Forks th' = Paused code n th Forks th'
 abbrev pub point_of : Thread → Stamp
 point_of th = record { taken = th.taken; ticks = th.memory.used }
 
--- what a thread without room for a composition comes to by its pause
+-- what a thread comes to by its pause where no composition begins
 abbrev pub event_by : Pause → Thread → Option Event
 event_by Goes th = None
 event_by (Offers at n) th = Some (Gives (record { at = at; cells = n; stamp = point_of th }))
@@ -64,9 +67,49 @@ event_by Wants th = Some (Needs (point_of th))
 event_by Halts th = Some (Ends (point_of th))
 event_by (Fails t) th = Some (Traps t (point_of th))
 event_by Spends th = Some Gone
-event_by Forks th = Some Gone
+event_by Forks th = Some (Needs (point_of th))
 
 -- no turn is left where nothing has come
 abbrev pub IsLeft : Option Event → ℕ → Type 0
 IsLeft None n = n ≡ 0
 IsLeft (Some e) n = 0 < n
+
+-- how many turns of its own a stage takes with what it comes to: one where it goes on
+abbrev pub spent : Option Event → ℕ
+spent None = 1
+spent (Some e) = 0
+
+-- an event, if the ticks are within the budget
+abbrev pub within : Bool → Event → Event
+within true e = e
+within false e = Gone
+
+-- so many ticks, if they are within the budget
+abbrev pub sum_if : Bool → ℕ → Option ℕ
+sum_if true n = Some n
+sum_if false n = None
+
+-- an output of the right side as one of the composition, where the left side has come to this point
+abbrev pub given_on : Offer → Stamp → ℕ → Event
+given_on o p limit =
+    within (nat_le (p.ticks + o.stamp.ticks) limit)
+    (Gives (record { at = o.at; cells = o.cells; stamp = record { taken = p.taken; ticks = p.ticks + o.stamp.ticks } }))
+
+-- a trap at the sum of two ticks
+abbrev pub trapped_on : Trap → ℕ → ℕ → ℕ → ℕ → Event
+trapped_on t taken a b limit = within (nat_le (a + b) limit) (Traps t (record { taken = taken; ticks = a + b }))
+
+-- a need at the sum of two ticks
+abbrev pub needed_on : ℕ → ℕ → ℕ → ℕ → Event
+needed_on taken a b limit = within (nat_le (a + b) limit) (Needs (record { taken = taken; ticks = a + b }))
+
+-- a composition is over, and so many cells of the left side's value go over
+abbrev pub over : ℕ → Joint → Thread → Standing → Standing → ℕ → ℕ → Turned
+over n j th left right taken ticks =
+    behind j th (written (from_base th.base j.scope) (cells_from n (from_base th.base j.scope) (seen left)) (brought_back j.back th.base (seen left) (seen right)))
+    taken ticks (Open (seen left) (room_of left) (room_of right))
+
+-- the same where the ticks are within the budget
+abbrev pub over_if : ℕ → Joint → Thread → Standing → Standing → ℕ → Option ℕ → Turned
+over_if n j th left right taken (Some ticks) = over n j th left right taken ticks
+over_if n j th left right taken None = Over

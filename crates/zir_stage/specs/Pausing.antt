@@ -35,10 +35,10 @@ joint_if None = None
 abbrev pub joint_at : List Instruction → ℕ → Option Joint
 joint_at code place = joint_if (slice_get code place)
 
--- a composition begins where there is one
+-- a composition begins where there is one; elsewhere the thread waits
 abbrev pub forked : Option Joint → Thread → Move
 forked (Some j) th = Forking j th
-forked None th = Spending
+forked None th = Wanting th
 
 -- what a thread did, by its pause, the composition at its place and what it is now
 abbrev pub moved_as : Pause → Option Joint → Thread → Move
@@ -58,3 +58,13 @@ series_fed s cells th = record (next_with th (counted_on s th (written (next_of 
 abbrev pub one_given : Series → Thread → Move
 one_given s th =
     after_steps (ticked th.memory) (λ m. Offering (cells_from s.size (next_of s th) (counted_on s th m)) (record th { memory = counted_on s th m })) th
+
+-- the composition that begins with a pause
+abbrev pub fork_by : Pause → Option Joint → Option Joint
+fork_by Goes j = None
+fork_by (Offers at n) j = None
+fork_by Wants j = None
+fork_by Halts j = None
+fork_by (Fails t) j = None
+fork_by Spends j = None
+fork_by Forks j = j

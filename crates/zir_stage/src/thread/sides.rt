@@ -29,11 +29,25 @@ impl Thread {
         Pause::Goes
     }
 
+    /// How many ticks there are.
+    pub fn limit(&self) -> u64
+        ensures { result ≡ self.now.memory.limit }
+    {
+        self.frame.limit()
+    }
+
     /// Its place in the code.
     pub fn place(&self) -> usize
         ensures { result ≡ self.now.place }
     {
         self.place
+    }
+
+    /// Where the cells of the body that runs begin.
+    pub fn base(&self) -> usize
+        ensures { result ≡ self.now.base }
+    {
+        self.base
     }
 
     /// Its cells.
@@ -66,7 +80,8 @@ impl Thread {
             Pause::Wants => Some(Event::Needs(self.point())),
             Pause::Halts => Some(Event::Ends(self.point())),
             Pause::Fails(trap) => Some(Event::Traps(trap, self.point())),
-            Pause::Spends | Pause::Forks => Some(Event::Gone),
+            Pause::Spends => Some(Event::Gone),
+            Pause::Forks => Some(Event::Needs(self.point())),
         }
     }
 
