@@ -1,5 +1,5 @@
 -- What stages and threads come to within so many turns.
-use Rattle.std.specs.Prelude.{ℕ, ◌+◌, ◌<◌, List, Bool, true, false, Option, Some, None, ◌≡◌, nat_le}
+use Rattle.std.specs.Prelude.{ℕ, ◌+◌, ◌<◌, ◌≤◌, List, Bool, true, false, Option, Some, None, ◌≡◌, nat_le}
 use Rattle.zir_flow.specs.declared.instruction.Instruction.{Instruction}
 use Rattle.zir_flow.specs.Threads.{Thread, move, cells_from, written}
 use Rattle.zir_flow.specs.Stages.{Stage as Standing, Alone, Room, Open, behind, brought_back, seen, room_of, Turned, Going, Giving, Needing, Ended, Failed, Gone as Over, turn, turned_on}
@@ -79,29 +79,29 @@ abbrev pub spent : Option Event → ℕ
 spent None = 1
 spent (Some e) = 0
 
--- an event, if the ticks are within the budget
-abbrev pub within : Bool → Event → Event
-within true e = e
-within false e = Gone
+-- a point with more ticks, if they are within the budget
+abbrev pub point_if : Bool → ℕ → ℕ → Option Stamp
+point_if true taken ticks = Some (record { taken = taken; ticks = ticks })
+point_if false taken ticks = None
 
--- so many ticks, if they are within the budget
-abbrev pub sum_if : Bool → ℕ → Option ℕ
-sum_if true n = Some n
-sum_if false n = None
+-- a point at the sum of two ticks, if that is within the budget
+abbrev pub point_within : ℕ → ℕ → ℕ → ℕ → Option Stamp
+point_within taken a b limit = point_if (nat_le (a + b) limit) taken (a + b)
 
--- an output of the right side as one of the composition, where the left side has come to this point
-abbrev pub given_on : Offer → Stamp → ℕ → Event
-given_on o p limit =
-    within (nat_le (p.ticks + o.stamp.ticks) limit)
-    (Gives (record { at = o.at; cells = o.cells; stamp = record { taken = p.taken; ticks = p.ticks + o.stamp.ticks } }))
+-- an output at a point, if there is one
+abbrev pub gives_at : Offer → Option Stamp → Event
+gives_at o (Some p) = Gives (record { at = o.at; cells = o.cells; stamp = p })
+gives_at o None = Gone
 
--- a trap at the sum of two ticks
-abbrev pub trapped_on : Trap → ℕ → ℕ → ℕ → ℕ → Event
-trapped_on t taken a b limit = within (nat_le (a + b) limit) (Traps t (record { taken = taken; ticks = a + b }))
+-- a trap at a point, if there is one
+abbrev pub traps_at : Trap → Option Stamp → Event
+traps_at t (Some p) = Traps t p
+traps_at t None = Gone
 
--- a need at the sum of two ticks
-abbrev pub needed_on : ℕ → ℕ → ℕ → ℕ → Event
-needed_on taken a b limit = within (nat_le (a + b) limit) (Needs (record { taken = taken; ticks = a + b }))
+-- a need at a point, if there is one
+abbrev pub needs_at : Option Stamp → Event
+needs_at (Some p) = Needs p
+needs_at None = Gone
 
 -- a composition is over, and so many cells of the left side's value go over
 abbrev pub over : ℕ → Joint → Thread → Standing → Standing → ℕ → ℕ → Turned
@@ -110,6 +110,11 @@ over n j th left right taken ticks =
     taken ticks (Open (seen left) (room_of left) (room_of right))
 
 -- the same where the ticks are within the budget
-abbrev pub over_if : ℕ → Joint → Thread → Standing → Standing → ℕ → Option ℕ → Turned
-over_if n j th left right taken (Some ticks) = over n j th left right taken ticks
-over_if n j th left right taken None = Over
+abbrev pub over_if : ℕ → Joint → Thread → Standing → Standing → Option Stamp → Turned
+over_if n j th left right (Some p) = over n j th left right p.taken p.ticks
+over_if n j th left right None = Over
+
+-- some turns are spent where nothing has come, and at least one is left where something has
+abbrev pub IsSpent : Option Event → ℕ → ℕ → Type 0
+IsSpent None before later = later < before
+IsSpent (Some e) before later = (later ≤ before) × (0 < later)

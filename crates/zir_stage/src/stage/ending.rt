@@ -1,10 +1,8 @@
 // Where compositions end.
 
-ghost use Rattle.std.specs.Prelude.{◌≡◌, ◌+◌, ◌<◌, None};
-ghost use Rattle.zir_expr.specs.Memory.{from_base};
-ghost use Rattle.zir_flow.specs.Stages.{brought_back, room_of, seen};
-ghost use Rattle.zir_flow.specs.Threads.{cells_from, written};
-ghost use Rattle.zir_stage.specs.Coming.{over_if, said, spent};
+ghost use Rattle.std.specs.Prelude.{◌≡◌};
+ghost use Rattle.zir_flow.specs.Stages.{Alone, Going, Open, brought_back, room_of, seen};
+ghost use Rattle.zir_stage.specs.Coming.{over, over_if, said};
 ghost use Rattle.zir_stage.specs.Standing.{memory_of, room_in, shape_of, stage_of, standing};
 
 use super::{Sides, Stage, joint_of};
@@ -64,4 +62,51 @@ fn gather(
     left.close(code);
     right.close(code);
     right.thread.bring_back(joint, base, &left.thread);
+}
+
+/// Ends a composition, with so many cells of the left side's value, if the ticks are within the budget. It takes a turn.
+pub(super) fn end_side(
+    thread: &mut Thread,
+    joint: &Joint,
+    value: u32,
+    left: &mut Stage,
+    right: &mut Stage,
+    link: &mut Option<Stamp>,
+    point: Option<Stamp>,
+    code: &[Instruction],
+) -> Option<Event>
+    ensures ends { over_if value joint.now thread.old (stage_of code.now left.old) (stage_of code.now right.old) point ≡ said result (standing code.now thread.new left.new right.new link.new) }
+    ensures left_shape { shape_of left.new ≡ shape_of left.old }
+    ensures right_shape { shape_of right.new ≡ shape_of right.old }
+{
+    match point {
+        None => Some(Event::Gone),
+        Some(point) => {
+            finish(thread, joint, value, left, right, point, code);
+            *link = None;
+            None
+        }
+    }
+}
+
+/// Ends a composition.
+fn finish(
+    thread: &mut Thread,
+    joint: &Joint,
+    value: u32,
+    left: &mut Stage,
+    right: &mut Stage,
+    point: Stamp,
+    code: &[Instruction],
+)
+    ensures ends { over value joint.now thread.old (stage_of code.now left.old) (stage_of code.now right.old) point.taken point.ticks ≡ Going (Alone thread.new (Open (memory_of left.new) (room_in left.new) (room_in right.new))) }
+    ensures left_shape { shape_of left.new ≡ shape_of left.old }
+    ensures right_shape { shape_of right.new ≡ shape_of right.old }
+{
+    let base = thread.base();
+    gather(joint, base, left, right, code);
+    right
+        .thread
+        .take_cells(index_of(base, joint.scope), value, &left.thread);
+    thread.go_behind(joint, &mut right.thread, point);
 }
