@@ -102,9 +102,8 @@ impl Stage {
         ensures shape { shape_of self.new ≡ shape_of self.old }
     {
         while *fuel > 0 {
-            let event = self.proceed(code, fuel);
-            if event.is_some() {
-                return event;
+            if let Some(event) = self.proceed(code, fuel) {
+                return Some(event);
             }
         }
         None
