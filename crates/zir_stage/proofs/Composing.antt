@@ -1,18 +1,18 @@
 -- What a composition comes to by what its sides come to.
-use Rattle.std.proofs.Common.{◌≡◌, ◌∙◌, ◌+◌, ◌≤◌, ◌<◌, ℕ, zero, suc, ℤ, List, Bool, true, false, Option, Some, None, ap, sym, subst, refl, arith, add-zero, nat_le}
+use Rattle.std.proofs.Common.{◌≡◌, ◌∙◌, ◌+◌, ◌-◌, ◌≤◌, ◌<◌, ℕ, zero, suc, ℤ, List, Bool, true, false, Option, Some, None, ap, sym, subst, refl, arith, add-zero, nat_le}
 use Rattle.zir_tree.specs.declared.ends.Stamp.{Stamp}
 use Rattle.zir_tree.specs.declared.ends.Trap.{Trap}
 use Rattle.zir_flow.specs.declared.instruction.Joint.{Joint}
 use Rattle.zir_flow.specs.declared.instruction.Instruction.{Instruction}
 use Rattle.zir_flow.specs.Threads.{Thread, cells_from}
-use Rattle.zir_flow.specs.Stages.{Stage, Joined, Room, Turned, Giving, Failed, Gone as Over, composed, pulled, either_turned, right_ended, turn, turned_on, Going}
+use Rattle.zir_flow.specs.Stages.{Stage, Joined, Room, Turned, Giving, Failed, Gone as Over, composed, pulled, either_turned, right_ended, turn, turned_on, Going, going_on}
 use Rattle.zir_stage.specs.declared.event.Offer.{Offer}
 use Rattle.zir_stage.specs.declared.event.Event.{Event}
 use Rattle.zir_stage.specs.declared.event.Event.TheVariants.{Gives, Needs, Ends, Traps, Gone}
-use Rattle.zir_stage.specs.Coming.{Came, Stops, IsSpent, said, says, spent, gives_at, traps_at, over_if, point_if, point_within}
+use Rattle.zir_stage.specs.Coming.{Came, Stops, IsLeft, IsSpent, said, says, spent, gives_at, traps_at, over_if, point_if, point_within}
 use Rattle.zir_stage.specs.Standing.{given, stood}
 use Rattle.zir_stage.proofs.Forking.{came_by}
-use Rattle.zir_stage.proofs.Turning.{right_on, stops_right, stops_left, spun_left}
+use Rattle.zir_stage.proofs.Turning.{right_on, stops_right, stops_left, spun_left, then_on}
 
 -- a thread that stands at a composition
 pub joined_is : (link : Option Stamp) (o : Option Joint) (p : Stamp) (j : Joint) (th : Thread) (l r : Stage) (room : Room) → link ≡ Some p → o ≡ Some j →
@@ -94,3 +94,21 @@ spent_less (Some e) a b h = h.0
 -- an event under another name
 pub stops_as : (n : ℕ) (code : List Instruction) (s s' : Stage) (e e' : Event) → e ≡ e' → Stops code n s (says e s') → Stops code n s (says e' s')
 stops_as n code s s' e e' f h = subst (λ x. Stops code n s (says x s')) f h
+
+rests_on : (e : Event) (s : Stage) (next : Stage → Turned) → going_on next (says e s) ≡ says e s
+rests_on (Gives o) s next = refl
+rests_on (Needs p) s next = refl
+rests_on (Ends p) s next = refl
+rests_on (Traps t p) s next = refl
+rests_on Gone s next = refl
+
+-- what a stage has come to is what it comes to within all its turns
+pub came_within : (r : Option Event) (n k : ℕ) (code : List Instruction) (s s' : Stage) → k ≤ n → Came code (n - k) s r s' → IsLeft r k →
+    turned_on n code s ≡ said r s'
+came_within None n k code s s' less h left =
+    let e : n ≡ n - k = omega (arith, left) in
+    ap (λ i. turned_on i code s) e ∙ h
+came_within (Some event) n k code s s' less (s1, e, h) left =
+    let g : n ≡ (n - k) + suc (k - 1) = omega (arith, less, left) in
+    ap (λ i. turned_on i code s) g ∙ then_on (n - k) (suc (k - 1)) code s s1 e ∙ ap (going_on (turned_on (k - 1) code)) h
+    ∙ rests_on event s' (turned_on (k - 1) code)

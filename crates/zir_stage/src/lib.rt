@@ -3,6 +3,7 @@
 
 pub mod calls;
 pub mod event;
+pub mod layout;
 pub mod source;
 pub mod thread;
 pub mod stage;

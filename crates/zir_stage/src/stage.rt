@@ -1,6 +1,7 @@
 // A stage: a thread, and room for the sides of a composition.
 
 mod ending;
+mod opening;
 mod turning;
 
 ghost use Rattle.std.specs.Prelude.{◌≡◌, List, option_copied};

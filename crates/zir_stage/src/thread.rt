@@ -1,6 +1,6 @@
 // A thread: a place in the code, the calls that it is in, and its cells.
 
-ghost use Rattle.std.specs.Prelude.{◌≡◌, ◌+◌, ◌<◌, None, ◌^◌, Some, nat_lt};
+ghost use Rattle.std.specs.Prelude.{[], IfOk, min, ◌≡◌, ◌+◌, ◌<◌, None, ◌^◌, Some, nat_lt};
 ghost use Rattle.zir_expr.specs.Memory.{after, ended, place_of, ticked};
 ghost use Rattle.zir_expr.specs.Running.{go_all};
 ghost use Rattle.zir_flow.specs.Threads.{Goes as Going, Offers as Offering, move, moved_by, onward, backward, next_with, after_steps, either_move, either_thread, goes_if, come, next_of, counted_on, count_in, turn_of, enter_if, left_for, cells_from, written, fed, fed_by, Wants as Wanting};
@@ -10,8 +10,9 @@ ghost use Rattle.zir_stage.specs.Sources.{cells_in};
 
 mod sides;
 
-use crate::calls::Calls;
+use crate::calls::{CALLS, Calls};
 use crate::source::{Source, write};
+use std::alloc::{AllocError, Global};
 use std::marker::Model;
 use zir_expr::frame::{Frame, Halt, Spot, index_of};
 use zir_expr::steps::{Step, run};
@@ -60,6 +61,26 @@ impl Model for Thread {
 }
 
 impl Thread {
+    /// A thread at a place of the code, in no call yet. At most 256 calls may be open at a time.
+    pub fn open(
+        alloc: Global,
+        deep: usize,
+        place: usize,
+        base: usize,
+        frame: Frame,
+    ) -> Result<Thread, AllocError>
+        ensures { IfOk result (λ thread. thread ≡ record { place = place; base = base; calls = []; deep = min deep 256; memory = frame; taken = 0 }) }
+    {
+        Ok(Thread {
+            place,
+            base,
+            calls: Calls::open(alloc)?,
+            deep: deep.min(CALLS),
+            frame,
+            taken: 0,
+        })
+    }
+
     /// Does the instruction at its place.
     pub fn follow(&mut self, code: &[Instruction]) -> Pause
         ensures { move code.now self.old ≡ moved_as result (joint_at code.now self.old.place) self.new }

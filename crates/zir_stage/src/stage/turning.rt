@@ -2,7 +2,7 @@
 
 ghost use Rattle.std.specs.Prelude.{◌≡◌, ◌+◌, ◌-◌, ◌<◌, ◌≤◌, ℕ, List, Some, None, option_copied};
 ghost use Rattle.zir_flow.specs.declared.instruction.Instruction.{Instruction};
-ghost use Rattle.zir_flow.specs.Stages.{Alone, Closed, Going, Joined, Open, Stage as Standing, handed, joined, pulled};
+ghost use Rattle.zir_flow.specs.Stages.{Alone, Closed, Going, Joined, Open, Stage as Standing, handed, joined, pulled, turned_on};
 ghost use Rattle.zir_flow.specs.Threads.{cells_from};
 ghost use Rattle.zir_stage.specs.declared.event.Event.TheVariants.{Needs};
 ghost use Rattle.zir_tree.specs.declared.ends.Stamp.{Stamp};
@@ -93,6 +93,15 @@ fn spend(fuel: &mut u64, event: Option<Event>) -> Option<Event>
 }
 
 impl Stage {
+    /// What it comes to within so many turns: its next event, or nothing yet.
+    pub fn advance(&mut self, code: &[Instruction], fuel: u64) -> Option<Event>
+        ensures came { turned_on fuel code.now (stage_of code.now self.old) ≡ said result (stage_of code.now self.new) }
+        ensures shape { shape_of self.new ≡ shape_of self.old }
+    {
+        let mut fuel = fuel;
+        self.run(code, &mut fuel)
+    }
+
     /// Goes on for as many turns as there are, or to an event.
     #[cycle(turning)]
     fn run(&mut self, code: &[Instruction], fuel: &mut u64) -> Option<Event>
