@@ -1,11 +1,11 @@
 -- What a composition comes to by what its sides come to.
-use Rattle.std.proofs.Common.{◌≡◌, ◌∙◌, ◌+◌, ◌-◌, ◌≤◌, ◌<◌, ℕ, zero, suc, ℤ, List, Bool, true, false, Option, Some, None, ap, sym, subst, refl, arith, add-zero, nat_le}
+use Rattle.std.proofs.Common.{◌≡◌, ◌∙◌, ◌+◌, ◌-◌, ◌≤◌, ℕ, suc, List, Bool, true, false, Option, Some, None, ap, sym, subst, refl, arith, add-zero, nat_le}
 use Rattle.zir_tree.specs.declared.ends.Stamp.{Stamp}
 use Rattle.zir_tree.specs.declared.ends.Trap.{Trap}
 use Rattle.zir_flow.specs.declared.instruction.Joint.{Joint}
 use Rattle.zir_flow.specs.declared.instruction.Instruction.{Instruction}
 use Rattle.zir_flow.specs.Threads.{Thread, cells_from}
-use Rattle.zir_flow.specs.Stages.{Stage, Joined, Room, Turned, Giving, Failed, Gone as Over, composed, pulled, either_turned, right_ended, turn, turned_on, Going, going_on}
+use Rattle.zir_flow.specs.Stages.{Stage, Joined, Room, Turned, Giving, Failed, Gone as Over, pulled, either_turned, right_ended, turned_on, Going, going_on}
 use Rattle.zir_stage.specs.declared.event.Offer.{Offer}
 use Rattle.zir_stage.specs.declared.event.Event.{Event}
 use Rattle.zir_stage.specs.declared.event.Event.TheVariants.{Gives, Needs, Ends, Traps, Gone}

@@ -1,9 +1,9 @@
 -- What a thread alone comes to by its pause.
-use Rattle.std.proofs.Common.{◌≡◌, ◌∙◌, ◌+◌, ℕ, List, Option, Some, None, ap, sym, subst, refl, add-zero}
+use Rattle.std.proofs.Common.{◌≡◌, ◌∙◌, ◌+◌, ℕ, List, Option, Some, None, ap, sym, subst, add-zero}
 use Rattle.zir_flow.specs.declared.instruction.Joint.{Joint}
 use Rattle.zir_flow.specs.declared.instruction.Instruction.{Instruction}
 use Rattle.zir_flow.specs.Threads.{Thread, move}
-use Rattle.zir_flow.specs.Stages.{Stage, Alone, Room, Turned, Going, joined, turned_by, turn, turned_on}
+use Rattle.zir_flow.specs.Stages.{Stage, Alone, Room, Turned, Going, joined, turned_by, turned_on}
 use Rattle.zir_stage.specs.declared.thread.Pause.{Pause}
 use Rattle.zir_stage.specs.declared.thread.Pause.TheVariants.{Goes, Offers, Wants, Halts, Fails, Spends, Forks}
 use Rattle.zir_stage.specs.declared.event.Event.{Event}

@@ -1,5 +1,5 @@
 -- A thread that wants an element or begins a composition, and a stage that needs an element, are as they were before.
-use Rattle.std.proofs.Common.{◌≡◌, ◌∙◌, ◌+◌, ℕ, zero, suc, ℤ, pos, negsuc, List, [], ◌∷◌, Bool, true, false, Option, Some, None, ap, sym, subst, refl, nat_lt, nat_le, slice_get, length}
+use Rattle.std.proofs.Common.{◌≡◌, ◌∙◌, ◌+◌, ℕ, zero, suc, ℤ, pos, negsuc, List, [], ◌∷◌, Bool, true, false, Option, Some, None, ap, subst, refl, nat_lt, nat_le, slice_get, length}
 use Rattle.zir_expr.specs.Memory.{Ran, Done, Trapped, Out, cell_at, place_of, ticked}
 use Rattle.zir_expr.specs.Memory.Frames.{Memory}
 use Rattle.zir_expr.specs.Running.{go_all}
@@ -11,7 +11,7 @@ use Rattle.zir_flow.specs.declared.instruction.Instruction.TheVariants.{Run, Tic
 use Rattle.zir_flow.specs.Threads.{Thread, Move, Goes, Offers, Wants, Halts, Fails, Spends, Forks, move, move_if, moved_by, either_move, after_steps, turn_of, enter_if, left_for, onward, come, cells_from, next_of, counted_on, next_with, goes_if}
 use Rattle.zir_expr.specs.Answers.{is_set}
 use Rattle.zir_stage.specs.Pausing.{one_given}
-use Rattle.zir_flow.specs.Stages.{Stage, Alone, Joined, Room, Closed, Open, Turned, Going, Giving, Needing, Ended, Failed, Gone, turn, turned_by, joined, composed, pulled, within_limit, either_turned, left_ended, right_ended}
+use Rattle.zir_flow.specs.Stages.{Stage, Alone, Joined, Room, Closed, Open, Turned, Going, Giving, Needing, Ended, Failed, Gone, turn, turned_by, joined, composed, pulled, either_turned, left_ended, right_ended}
 
 -- a thread that wants an element or begins a composition is this one
 abbrev pub Stays : Move → Thread → Type 0
@@ -72,9 +72,6 @@ followed_stays None th = tt
 pub moves_stay : (code : List Instruction) (th : Thread) → Stays (move code th) th
 moves_stay code th = followed_stays (slice_get code th.place) th
 
-pub forks_stay : (code : List Instruction) (th th' : Thread) (j : Joint) → move code th ≡ Forks j th' → th' ≡ th
-forks_stay code th th' j e = subst (λ m. Stays m th) e (moves_stay code th)
-
 -- a stage that needs an element is this one
 abbrev Keeps : Turned → Stage → Type 0
 Keeps (Going s') s = Unit {0}
@@ -108,7 +105,7 @@ left_keeps code th j l r r' t k own (Giving cells taken ticks l') same h = tt
 left_keeps code th j l r r' t k own (Needing taken ticks l') same h =
     limit_keeps (nat_le (ticks + own) th.memory.limit) (Needing taken (ticks + own) (Joined th j l' r' t k)) (Joined th j l r t k)
     (ap (λ s. Joined th j s r' t k) h ∙ ap (λ s. Joined th j l s t k) same)
-left_keeps code th j l r r' t k own (Ended taken ticks l') same h = 
+left_keeps code th j l r r' t k own (Ended taken ticks l') same h =
     limit_keeps (nat_le (ticks + own) th.memory.limit) (left_ended j th l' r' taken (ticks + own)) (Joined th j l r t k) tt
 left_keeps code th j l r r' t k own (Failed trap taken ticks l') same h =
     limit_keeps (nat_le (ticks + own) th.memory.limit) (Failed trap taken (ticks + own) (Joined th j l' r' t k)) (Joined th j l r t k) tt

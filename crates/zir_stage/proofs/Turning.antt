@@ -1,5 +1,5 @@
 -- How the turns of stages follow one another.
-use Rattle.std.proofs.Common.{◌≡◌, ◌∙◌, ◌+◌, ◌-◌, ℕ, zero, suc, List, Option, Some, None, ap, sym, subst, refl, arith, zero-add}
+use Rattle.std.proofs.Common.{◌≡◌, ◌∙◌, ◌+◌, ℕ, zero, suc, List, ap, sym, subst, refl, arith, zero-add}
 use Rattle.zir_flow.specs.declared.instruction.Instruction.{Instruction}
 use Rattle.zir_flow.specs.declared.instruction.Joint.{Joint}
 use Rattle.zir_flow.specs.Threads.{Thread}
@@ -87,10 +87,11 @@ pub stops_left : (n m : ℕ) (code : List Instruction) (th : Thread) (j : Joint)
 stops_left n m code th j l r r' t k a own x (r1, e, h) (l1, f, g) =
     let same : r' ≡ r1 = needs_stay code r1 r' a own h in
     let need : turn code r' ≡ Needing a own r' = subst (λ s. turn code s ≡ Needing a own r') (sym same) h in
-    let right : turned_on n code r ≡ Going r' = e ∙ ap Going (sym same) in
-    (Joined th j l1 r' t k,
-    then_on n m code _ _ (right_on n code th j l r r' t k right) ∙ left_on m code th j l l1 r' t k a own need f,
-    ap (composed code th j l1 t k (turn code l1)) need ∙ ap (pulled code th j r' t k own) g)
+    let right : turned_on n code r ≡ Going r' = e ∙ ap Going (sym same) in (
+      Joined th j l1 r' t k,
+      then_on n m code _ _ (right_on n code th j l r r' t k right) ∙ left_on m code th j l l1 r' t k a own need f,
+      ap (composed code th j l1 t k (turn code l1)) need ∙ ap (pulled code th j r' t k own) g,
+    )
 
 -- where it needs an element, and the left side has only gone on
 pub spun_left : (n m : ℕ) (code : List Instruction) (th : Thread) (j : Joint) (l l1 r r' : Stage) (t k a own : ℕ) → Stops code n r (Needing a own r') →

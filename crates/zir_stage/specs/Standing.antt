@@ -1,13 +1,12 @@
 -- What a stage stands for, and the room that it has.
 use Rattle.std.specs.Prelude.{ℕ, ◌+◌, List, Option, Some, None}
 use Rattle.zir_tree.specs.declared.ends.Stamp.{Stamp}
-use Rattle.zir_expr.specs.Memory.{from_base}
 use Rattle.zir_expr.specs.Memory.Frames.{Memory}
 use Rattle.zir_flow.specs.declared.instruction.Joint.{Joint}
 use Rattle.zir_flow.specs.declared.instruction.Instruction.{Instruction}
 use Rattle.zir_flow.specs.Kinds.{Shape, Flat, Split}
-use Rattle.zir_flow.specs.Threads.{Thread, cells_from, written}
-use Rattle.zir_flow.specs.Stages.{Stage as Standing, Alone, Joined, Room, Closed, Open, seen, brought_back}
+use Rattle.zir_flow.specs.Threads.{Thread}
+use Rattle.zir_flow.specs.Stages.{Stage as Standing, Alone, Joined, Room, Closed, Open}
 use Rattle.zir_stage.specs.declared.stage.Stage.{Stage, Stage', None', Some'}
 use Rattle.zir_stage.specs.declared.stage.Sides.{Sides'}
 use Rattle.zir_stage.specs.Pausing.{joint_at}

@@ -5,5 +5,7 @@ pub mod calls;
 pub mod event;
 pub mod layout;
 pub mod source;
-pub mod thread;
 pub mod stage;
+#[cfg(test)]
+mod tests;
+pub mod thread;

@@ -45,13 +45,7 @@ impl Stage {
 
 /// Closes both sides of a composition, and brings back what the left side assigns.
 #[cycle(closing)]
-fn gather(
-    joint: &Joint,
-    base: usize,
-    left: &mut Stage,
-    right: &mut Stage,
-    code: &[Instruction],
-)
+fn gather(joint: &Joint, base: usize, left: &mut Stage, right: &mut Stage, code: &[Instruction])
     ensures left { memory_of left.new ≡ seen (stage_of code.now left.old) }
     ensures left_room { room_in left.new ≡ room_of (stage_of code.now left.old) }
     ensures left_shape { shape_of left.new ≡ shape_of left.old }

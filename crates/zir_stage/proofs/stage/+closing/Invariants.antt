@@ -1,4 +1,4 @@
-use Rattle.std.proofs.Common.{ℕ, ◌+◌, ◌*◌}
+use Rattle.std.proofs.Common.{◌+◌, ◌*◌}
 use Rattle.zir_stage.specs.Standing.{shape_of, weight}
 use Rattle.zir_stage.proofs.stage.+closing.Given as goal
 

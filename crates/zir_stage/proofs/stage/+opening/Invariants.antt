@@ -1,4 +1,4 @@
-use Rattle.std.proofs.Common.{ℕ, ◌+◌, ◌*◌}
+use Rattle.std.proofs.Common.{◌+◌, ◌*◌}
 use Rattle.zir_stage.specs.Layouts.{shape_by}
 use Rattle.zir_stage.specs.Standing.{weight}
 use Rattle.zir_stage.proofs.stage.+opening.Given as goal

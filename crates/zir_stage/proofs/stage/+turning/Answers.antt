@@ -1,9 +1,7 @@
-use Rattle.std.proofs.Common.{arith, rules, ap, subst, sym, refl, ◌≡◌, ◌∙◌, ◌+◌, ◌-◌, ◌<◌, ◌≤◌, ℕ, Some, None}
-use Rattle.zir_flow.specs.Stages.{Going, Joined, turned_on}
-use Rattle.zir_stage.specs.declared.event.Event.TheVariants.{Gives, Needs, Ends, Traps, Gone}
-use Rattle.zir_stage.specs.Coming.{Came, Stops, point_within, says, spent}
-use Rattle.zir_stage.specs.Pausing.{joint_at}
-use Rattle.zir_stage.specs.Standing.{shape_of, stage_of, standing}
+use Rattle.std.proofs.Common.{arith, rules, ap, ◌≡◌, ◌∙◌, ◌+◌, ◌-◌, ◌<◌, ◌≤◌, Some, None}
+use Rattle.zir_flow.specs.Stages.{Going, turned_on}
+use Rattle.zir_stage.specs.Coming.{point_within, says, spent}
+use Rattle.zir_stage.specs.Standing.{stage_of, standing}
 use Rattle.zir_stage.proofs.Composing.{joined_is, came_nothing, came_gives, came_traps, came_ends, came_gone, came_waiting, came_pulled, spent_less, stops_as}
 use Rattle.zir_stage.proofs.Forking.{came_on}
 use Rattle.zir_stage.proofs.stage.+turning.Goals as goal
@@ -94,9 +92,10 @@ pub Stage::run-loop-fuel-preserved : goal.Stage::run-loop-fuel-preserved
 Stage::run-loop-fuel-preserved t c =
     let less : c.proceed.new.fuel < c.loop-fuel.fuel = c.in_default.ensures.fuel in
     let k : c.args.fuel.now - c.proceed.new.fuel ≡ (c.args.fuel.now - c.loop-fuel.fuel) + (c.loop-fuel.fuel - c.proceed.new.fuel) =
-    omega (arith, less, c.loop-fuel.invariant.0) in
-    (omega (arith, less, c.loop-fuel.invariant.0),
-    came_on None (c.args.fuel.now - c.loop-fuel.fuel) (c.loop-fuel.fuel - c.proceed.new.fuel) _ c.args.code.now
-    (stage_of c.args.code.now c.args.self.now) (stage_of c.args.code.now c.loop-fuel.self) (stage_of c.args.code.now c.proceed.new.self) k
-    c.loop-fuel.invariant.1 c.in_default.ensures.came,
-    c.proceed.ensures.shape ∙ c.loop-fuel.invariant.2)
+    omega (arith, less, c.loop-fuel.invariant.0) in (
+      omega (arith, less, c.loop-fuel.invariant.0),
+      came_on None (c.args.fuel.now - c.loop-fuel.fuel) (c.loop-fuel.fuel - c.proceed.new.fuel) _ c.args.code.now
+          (stage_of c.args.code.now c.args.self.now) (stage_of c.args.code.now c.loop-fuel.self) (stage_of c.args.code.now c.proceed.new.self) k
+          c.loop-fuel.invariant.1 c.in_default.ensures.came,
+      c.proceed.ensures.shape ∙ c.loop-fuel.invariant.2,
+    )

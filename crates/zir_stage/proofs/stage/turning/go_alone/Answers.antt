@@ -1,6 +1,5 @@
-use Rattle.std.proofs.Common.{rules, ◌≡◌, ◌-◌, None, Some}
+use Rattle.std.proofs.Common.{rules, ◌≡◌, None, Some}
 use Rattle.zir_flow.specs.Stages.{Closed}
-use Rattle.zir_stage.specs.Coming.{Came}
 use Rattle.zir_stage.specs.Pausing.{fork_by, joint_at}
 use Rattle.zir_stage.proofs.Forking.{paced_event, paced_fork}
 use Rattle.zir_stage.proofs.stage.turning.go_alone.Goals as goal

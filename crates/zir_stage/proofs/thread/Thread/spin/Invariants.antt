@@ -1,4 +1,4 @@
-use Rattle.std.proofs.Common.{◌≡◌, ◌-◌, ◌≤◌, ℕ}
+use Rattle.std.proofs.Common.{◌-◌, ◌≤◌}
 use Rattle.zir_stage.specs.Coming.{Went}
 use Rattle.zir_stage.proofs.thread.Thread.spin.Given as goal
 
