@@ -1,5 +1,7 @@
--- The sides of a composition that has not begun.
-use Rattle.std.specs.Prelude.{ℕ, None, Some, ◌≡◌, length}
+-- Threads and the sides of compositions as they are opened.
+use Rattle.std.specs.Prelude.{ℕ, [], None, Some, ◌≡◌, length, min}
+use Rattle.zir_expr.specs.Memory.Frames.{Memory}
+use Rattle.zir_flow.specs.Threads.{Thread}
 use Rattle.zir_flow.specs.Fitting.{RoomFits}
 use Rattle.zir_flow.specs.Kinds.{Shape}
 use Rattle.zir_stage.specs.declared.stage.Sides.{Sides, Sides'}
@@ -10,3 +12,7 @@ abbrev pub IsOpened : ℕ → Shape → Shape → Sides → Type 0
 IsOpened size a b (Sides' left right (Some link)) = ⊥
 IsOpened size a b (Sides' left right None) =
     (length (memory_of left).cells ≡ size) × RoomFits size a (room_in left) × RoomFits size b (room_in right) × (shape_of left ≡ a) × (shape_of right ≡ b)
+
+-- a thread at a place of the code, in no call yet; at most 256 may be open at a time
+abbrev pub beginning : ℕ → ℕ → ℕ → Memory → Thread
+beginning deep place base m = record { place = place; base = base; calls = []; deep = min deep 256; memory = m; taken = 0 }

@@ -24,7 +24,11 @@ abbrev pub room_in : Stage → Room
 room_in (Stage' th None') = Closed
 room_in (Stage' th (Some' p (Sides' left right link))) = Open (memory_of left) (room_in left) (room_in right)
 
--- the shape of that room
+-- the room of a thread with these sides
+abbrev pub room_with : Stage → Stage → Room
+room_with left right = Open (memory_of left) (room_in left) (room_in right)
+
+-- the shape of its room
 abbrev pub shape_of : Stage → Shape
 shape_of (Stage' th None') = Flat
 shape_of (Stage' th (Some' p (Sides' left right link))) = Split (shape_of left) (shape_of right)
@@ -39,12 +43,12 @@ stood None j th left right room = Alone th room
 abbrev pub stage_of : List Instruction → Stage → Standing
 stage_of code (Stage' th None') = Alone th Closed
 stage_of code (Stage' th (Some' p (Sides' left right link))) =
-    stood link (joint_at code th.place) th (stage_of code left) (stage_of code right) (Open (memory_of left) (room_in left) (room_in right))
+    stood link (joint_at code th.place) th (stage_of code left) (stage_of code right) (room_with left right)
 
 -- what a thread stands for with the sides of a composition, if one has begun
 abbrev pub standing : List Instruction → Thread → Stage → Stage → Option Stamp → Standing
 standing code th left right link =
-    stood link (joint_at code th.place) th (stage_of code left) (stage_of code right) (Open (memory_of left) (room_in left) (room_in right))
+    stood link (joint_at code th.place) th (stage_of code left) (stage_of code right) (room_with left right)
 
 -- the memory in which the cells of an output stand
 abbrev pub given : Standing → Memory

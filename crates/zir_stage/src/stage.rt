@@ -25,7 +25,8 @@ pub struct Stage {
     sides: Option<Box<Sides>>,
 }
 
-/// The sides of a composition, and where one has begun the elements and ticks of the left side at the output that it gave last.
+/// The sides of a composition, and where one has begun the elements and ticks of the left side at the output that it gave
+/// last.
 #[cycle(stages)]
 #[derive(Drop)]
 struct Sides {
@@ -57,7 +58,8 @@ impl Stage {
 
     /// Begins as the left side of a composition, with the cells in scope of a thread.
     fn begin_left(&mut self, joint: &Joint, thread: &Thread)
-        ensures alone { (code : List Instruction) → stage_of code self.new ≡ Alone (left_begins joint.now thread.now (memory_of self.old)) (room_in self.old) }
+        ensures alone { (code : List Instruction) →
+            stage_of code self.new ≡ Alone (left_begins joint.now thread.now (memory_of self.old)) (room_in self.old) }
         ensures shape { shape_of self.new ≡ shape_of self.old }
     {
         self.thread.begin_left(joint, thread);

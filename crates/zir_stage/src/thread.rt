@@ -1,10 +1,11 @@
 // A thread: a place in the code, the calls that it is in, and its cells.
 
-ghost use Rattle.std.specs.Prelude.{[], IfOk, min, ◌≡◌, ◌+◌, ◌<◌, None, ◌^◌, Some, nat_lt};
-ghost use Rattle.zir_expr.specs.Memory.{after, ended, place_of, ticked};
+ghost use Rattle.std.specs.Prelude.{IfOk, min, ◌≡◌, ◌+◌, ◌<◌, None, ◌^◌, Some, nat_lt};
+ghost use Rattle.zir_expr.specs.Memory.{after, ended, ticked};
 ghost use Rattle.zir_expr.specs.Running.{go_all};
-ghost use Rattle.zir_flow.specs.Threads.{Goes as Going, Offers as Offering, move, moved_by, onward, backward, next_with, after_steps, either_move, either_thread, goes_if, come, next_of, counted_on, count_in, turn_of, enter_if, left_for, cells_from, written, fed, fed_by, Wants as Wanting};
-ghost use Rattle.zir_flow.specs.declared.instruction.Instruction.TheVariants.{Gives as GivesSeries, Branch, Turn, Enter, Take};
+ghost use Rattle.zir_flow.specs.Threads.{Goes as Going, move, moved_by, onward, backward, next_with, after_steps, either_thread, come, next_of, counted_on, count_in, left_for, fed, fed_by};
+ghost use Rattle.zir_flow.specs.declared.instruction.Instruction.TheVariants.{Gives as GivesSeries, Branch, Turn, Enter, Give, Take, Takes};
+ghost use Rattle.zir_stage.specs.Opened.{beginning};
 ghost use Rattle.zir_stage.specs.Pausing.{moved_as, joint_at, joint_of, one_given, series_fed};
 ghost use Rattle.zir_stage.specs.Sources.{cells_in};
 
@@ -69,7 +70,7 @@ impl Thread {
         base: usize,
         frame: Frame,
     ) -> Result<Thread, AllocError>
-        ensures { IfOk result (λ thread. thread ≡ record { place = place; base = base; calls = []; deep = min deep 256; memory = frame; taken = 0 }) }
+        ensures { IfOk result (λ thread. thread ≡ beginning deep place base frame) }
     {
         Ok(Thread {
             place,
@@ -131,7 +132,8 @@ impl Thread {
 
     /// Straight code.
     fn run(&mut self, steps: &[Step]) -> Pause
-        ensures { after_steps (go_all steps.now self.old.base self.old.memory) (λ m. Going (next_with self.old m)) self.old ≡ moved_as result None self.new }
+        ensures { after_steps (go_all steps.now self.old.base self.old.memory) (λ m. Going (next_with self.old m)) self.old
+            ≡ moved_as result None self.new }
     {
         let ran = run(steps, &mut self.frame, self.base);
         self.pass(ran)
@@ -174,7 +176,7 @@ impl Thread {
 
     /// Goes on where all of a series have come, and wants one more before.
     fn want(&mut self, series: Series, k: u32) -> Pause
-        ensures { either_move (nat_lt (come series self.old) series.count) (Wanting self.old) (Going (onward k self.old)) ≡ moved_as result None self.new }
+        ensures { moved_by (Takes series k) self.old ≡ moved_as result None self.new }
     {
         if self.come(series) < u64::from(series.count) {
             Pause::Wants
@@ -185,7 +187,7 @@ impl Thread {
 
     /// Gives so many cells from a spot on.
     fn give(&mut self, from: Spot, n: u32) -> Pause
-        ensures { Offering (cells_from n (place_of self.old.base from) self.old.memory) (onward 0 self.old) ≡ moved_as result None self.new }
+        ensures { moved_by (Give from n) self.old ≡ moved_as result None self.new }
     {
         let at = from.index(self.base);
         self.place = index_of(self.place.wrapping_add(1), 0);
@@ -317,7 +319,8 @@ impl Thread {
 
     /// Takes one more element of a series, if not all have come.
     fn take_next(&mut self, series: Series, source: Source)
-        ensures { either_thread (nat_lt (come series self.old) series.count) (series_fed series (cells_in source.entry) self.old) self.old ≡ self.new }
+        ensures { either_thread (nat_lt (come series self.old) series.count) (series_fed series (cells_in source.entry) self.old) self.old
+            ≡ self.new }
     {
         if self.come(series) < u64::from(series.count) {
             self.take_one(series, source);

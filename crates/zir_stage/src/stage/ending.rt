@@ -1,9 +1,9 @@
 // Where compositions end.
 
 ghost use Rattle.std.specs.Prelude.{◌≡◌};
-ghost use Rattle.zir_flow.specs.Stages.{Alone, Going, Open, brought_back, room_of, seen};
+ghost use Rattle.zir_flow.specs.Stages.{Alone, Going, brought_back, room_of, seen};
 ghost use Rattle.zir_stage.specs.Coming.{over, over_if, said};
-ghost use Rattle.zir_stage.specs.Standing.{memory_of, room_in, shape_of, stage_of, standing};
+ghost use Rattle.zir_stage.specs.Standing.{memory_of, room_in, room_with, shape_of, stage_of, standing};
 
 use super::{Sides, Stage, joint_of};
 use crate::event::Event;
@@ -49,7 +49,8 @@ fn gather(joint: &Joint, base: usize, left: &mut Stage, right: &mut Stage, code:
     ensures left { memory_of left.new ≡ seen (stage_of code.now left.old) }
     ensures left_room { room_in left.new ≡ room_of (stage_of code.now left.old) }
     ensures left_shape { shape_of left.new ≡ shape_of left.old }
-    ensures right { memory_of right.new ≡ brought_back joint.now.back base (seen (stage_of code.now left.old)) (seen (stage_of code.now right.old)) }
+    ensures right { memory_of right.new
+        ≡ brought_back joint.now.back base (seen (stage_of code.now left.old)) (seen (stage_of code.now right.old)) }
     ensures right_room { room_in right.new ≡ room_of (stage_of code.now right.old) }
     ensures right_shape { shape_of right.new ≡ shape_of right.old }
 {
@@ -69,7 +70,8 @@ pub(super) fn end_side(
     point: Option<Stamp>,
     code: &[Instruction],
 ) -> Option<Event>
-    ensures ends { over_if value joint.now thread.old (stage_of code.now left.old) (stage_of code.now right.old) point ≡ said result (standing code.now thread.new left.new right.new link.new) }
+    ensures ends { over_if value joint.now thread.old (stage_of code.now left.old) (stage_of code.now right.old) point
+        ≡ said result (standing code.now thread.new left.new right.new link.new) }
     ensures left_shape { shape_of left.new ≡ shape_of left.old }
     ensures right_shape { shape_of right.new ≡ shape_of right.old }
 {
@@ -93,7 +95,8 @@ fn finish(
     point: Stamp,
     code: &[Instruction],
 )
-    ensures ends { over value joint.now thread.old (stage_of code.now left.old) (stage_of code.now right.old) point.taken point.ticks ≡ Going (Alone thread.new (Open (memory_of left.new) (room_in left.new) (room_in right.new))) }
+    ensures ends { over value joint.now thread.old (stage_of code.now left.old) (stage_of code.now right.old) point.taken point.ticks
+        ≡ Going (Alone thread.new (room_with left.new right.new)) }
     ensures left_shape { shape_of left.new ≡ shape_of left.old }
     ensures right_shape { shape_of right.new ≡ shape_of right.old }
 {

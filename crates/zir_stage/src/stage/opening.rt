@@ -1,11 +1,11 @@
 // Opens a stage, which takes all of its memory.
 
-ghost use Rattle.std.specs.Prelude.{◌≡◌, [], IfOk, List, min};
+ghost use Rattle.std.specs.Prelude.{◌≡◌, IfOk, List};
 ghost use Rattle.zir_flow.specs.declared.instruction.Instruction.{Instruction};
 ghost use Rattle.zir_flow.specs.Fitting.{RoomFits};
 ghost use Rattle.zir_flow.specs.Stages.{Alone};
 ghost use Rattle.zir_stage.specs.Layouts.{shape_by};
-ghost use Rattle.zir_stage.specs.Opened.{IsOpened};
+ghost use Rattle.zir_stage.specs.Opened.{IsOpened, beginning};
 ghost use Rattle.zir_stage.specs.Standing.{memory_of, room_in, shape_of, stage_of};
 
 use super::{Sides, Stage};
@@ -15,8 +15,8 @@ use std::alloc::{AllocError, Global};
 use zir_expr::frame::Frame;
 
 impl Stage {
-    /// A thread alone at a place of the code, with its cells, and with room for compositions of a layout in so many cells each. At most 256 calls may be open at
-    /// a time.
+    /// A thread alone at a place of the code, with its cells, and with room for compositions of a layout, in so many cells
+    /// each. At most 256 calls may be open at a time.
     #[cycle(opening)]
     pub fn open(
         alloc: Global,
@@ -27,7 +27,8 @@ impl Stage {
         base: usize,
         frame: Frame,
     ) -> Result<Stage, AllocError>
-        ensures alone { IfOk result (λ stage. (code : List Instruction) → stage_of code stage ≡ Alone (record { place = place; base = base; calls = []; deep = min deep 256; memory = frame; taken = 0 }) (room_in stage)) }
+        ensures alone { IfOk result (λ stage. (code : List Instruction) →
+            stage_of code stage ≡ Alone (beginning deep place base frame) (room_in stage)) }
         ensures fits { IfOk result (λ stage. RoomFits cells (shape_by layout.now) (room_in stage)) }
         ensures memory { IfOk result (λ stage. memory_of stage ≡ frame) }
         ensures shape { IfOk result (λ stage. shape_of stage ≡ shape_by layout.now) }

@@ -2,13 +2,13 @@
 
 ghost use Rattle.std.specs.Prelude.{◌≡◌, ◌+◌, ◌-◌, ◌<◌, ◌≤◌, ℕ, List, Some, None, option_copied};
 ghost use Rattle.zir_flow.specs.declared.instruction.Instruction.{Instruction};
-ghost use Rattle.zir_flow.specs.Stages.{Alone, Closed, Going, Joined, Open, Stage as Standing, handed, joined, pulled, turned_on};
+ghost use Rattle.zir_flow.specs.Stages.{Alone, Closed, Going, Joined, Stage as Standing, handed, joined, pulled, turned_on};
 ghost use Rattle.zir_flow.specs.Threads.{cells_from};
 ghost use Rattle.zir_stage.specs.declared.event.Event.TheVariants.{Needs};
 ghost use Rattle.zir_tree.specs.declared.ends.Stamp.{Stamp};
 ghost use Rattle.zir_stage.specs.Coming.{Came, IsLeft, IsSpent, Stops, gives_at, needs_at, point_within, said, says, spent, traps_at};
 ghost use Rattle.zir_stage.specs.Pausing.{fork_by, joint_at};
-ghost use Rattle.zir_stage.specs.Standing.{given, memory_of, room_in, shape_of, stage_of, standing};
+ghost use Rattle.zir_stage.specs.Standing.{given, room_with, shape_of, stage_of, standing};
 
 use super::ending::end_side;
 use super::{Sides, Stage, joint_of};
@@ -166,7 +166,8 @@ fn go(
     fuel: &mut u64,
 ) -> Option<Event>
     requires { 0 < fuel.old }
-    ensures came { Came code.now (fuel.old - fuel.new) (Alone thread.old (Open (memory_of left.old) (room_in left.old) (room_in right.old))) result (standing code.now thread.new left.new right.new link.new) }
+    ensures came { Came code.now (fuel.old - fuel.new) (Alone thread.old (room_with left.old right.old)) result
+        (standing code.now thread.new left.new right.new link.new) }
     ensures fuel { IsSpent result fuel.old fuel.new }
     ensures left_shape { shape_of left.new ≡ shape_of left.old }
     ensures right_shape { shape_of right.new ≡ shape_of right.old }
@@ -190,7 +191,9 @@ fn begin(
     right: &mut Stage,
     link: &mut Option<Stamp>,
 )
-    ensures begun { (code : List Instruction) → joint_at code thread.old.place ≡ Some joint.now → joined joint.now thread.old (Open (memory_of left.old) (room_in left.old) (room_in right.old)) ≡ Going (standing code thread.new left.new right.new link.new) }
+    ensures begun { (code : List Instruction) → joint_at code thread.old.place ≡ Some joint.now →
+        joined joint.now thread.old (room_with left.old right.old)
+        ≡ Going (standing code thread.new left.new right.new link.new) }
     ensures left_shape { shape_of left.new ≡ shape_of left.old }
     ensures right_shape { shape_of right.new ≡ shape_of right.old }
 {
@@ -210,7 +213,8 @@ fn proceed_with(
     fuel: &mut u64,
 ) -> Option<Event>
     requires { 0 < fuel.old }
-    ensures came { Came code.now (fuel.old - fuel.new) (standing code.now thread.old left.old right.old link.old) result (standing code.now thread.new left.new right.new link.new) }
+    ensures came { Came code.now (fuel.old - fuel.new) (standing code.now thread.old left.old right.old link.old) result
+        (standing code.now thread.new left.new right.new link.new) }
     ensures fuel { IsSpent result fuel.old fuel.new }
     ensures left_shape { shape_of left.new ≡ shape_of left.old }
     ensures right_shape { shape_of right.new ≡ shape_of right.old }
@@ -239,7 +243,9 @@ fn compose(
     requires fuel { 0 < fuel.old }
     requires linked { link.old ≡ Some point }
     requires at { joint_at code.now thread.old.place ≡ Some joint.now }
-    ensures came { Came code.now (fuel.old - fuel.new) (Joined thread.old joint.now (stage_of code.now left.old) (stage_of code.now right.old) point.taken point.ticks) result (standing code.now thread.new left.new right.new link.new) }
+    ensures came { Came code.now (fuel.old - fuel.new)
+        (Joined thread.old joint.now (stage_of code.now left.old) (stage_of code.now right.old) point.taken point.ticks) result
+        (standing code.now thread.new left.new right.new link.new) }
     ensures fuel { IsSpent result fuel.old fuel.new }
     ensures left_shape { shape_of left.new ≡ shape_of left.old }
     ensures right_shape { shape_of right.new ≡ shape_of right.old }
@@ -283,7 +289,10 @@ fn pull(
     requires fuel { 0 < fuel.old }
     requires linked { link.old ≡ Some point }
     requires at { joint_at code.now thread.old.place ≡ Some joint.now }
-    ensures came { (n : ℕ) (r : Standing) → Stops code.now n r (says (Needs need) (stage_of code.now right.old)) → Came code.now (n + (fuel.old - fuel.new)) (Joined thread.old joint.now (stage_of code.now left.old) r point.taken point.ticks) result (standing code.now thread.new left.new right.new link.new) }
+    ensures came { (n : ℕ) (r : Standing) → Stops code.now n r (says (Needs need) (stage_of code.now right.old)) →
+        Came code.now (n + (fuel.old - fuel.new))
+        (Joined thread.old joint.now (stage_of code.now left.old) r point.taken point.ticks) result
+        (standing code.now thread.new left.new right.new link.new) }
     ensures fuel { IsSpent result fuel.old fuel.new }
     ensures left_shape { shape_of left.new ≡ shape_of left.old }
     ensures right_shape { shape_of right.new ≡ shape_of right.old }
@@ -309,7 +318,10 @@ fn answer(
     code: &[Instruction],
 ) -> Option<Event>
     requires at { joint_at code.now thread.old.place ≡ Some joint.now }
-    ensures answers { (point : Stamp) → link.old ≡ Some point → pulled code.now thread.old joint.now (stage_of code.now right.old) point.taken point.ticks own (says event (stage_of code.now left.old)) ≡ said result (standing code.now thread.new left.new right.new link.new) }
+    ensures answers { (point : Stamp) → link.old ≡ Some point →
+        pulled code.now thread.old joint.now (stage_of code.now right.old) point.taken point.ticks own
+        (says event (stage_of code.now left.old))
+        ≡ said result (standing code.now thread.new left.new right.new link.new) }
     ensures left_shape { shape_of left.new ≡ shape_of left.old }
     ensures right_shape { shape_of right.new ≡ shape_of right.old }
 {
@@ -338,7 +350,8 @@ fn answer(
 
 /// An output of the left side goes to the right side.
 fn hand_over(left: &Stage, right: &mut Stage, offer: Offer, code: &[Instruction])
-    ensures handed { stage_of code.now right.new ≡ handed code.now (cells_from offer.cells offer.at (given (stage_of code.now left.now))) (stage_of code.now right.old) }
+    ensures handed { stage_of code.now right.new
+        ≡ handed code.now (cells_from offer.cells offer.at (given (stage_of code.now left.now))) (stage_of code.now right.old) }
     ensures shape { shape_of right.new ≡ shape_of right.old }
 {
     let source = Source::Held(left.given(code), offer.at, offer.cells);

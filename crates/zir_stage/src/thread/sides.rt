@@ -139,7 +139,11 @@ impl Thread {
 
     /// Goes on behind a composition with so many elements taken and ticks used, and with the cells of another thread.
     pub fn go_behind(&mut self, joint: &Joint, other: &mut Thread, point: Stamp)
-        ensures { self.new ≡ record self.old { place = from_base (from_base self.old.place 1) joint.now.behind; memory = record other.old.memory { used = point.ticks; limit = self.old.memory.limit }; taken = point.taken } }
+        ensures { self.new ≡ record self.old {
+          place = from_base (from_base self.old.place 1) joint.now.behind;
+          memory = record other.old.memory { used = point.ticks; limit = self.old.memory.limit };
+          taken = point.taken;
+        } }
     {
         let limit = self.frame.limit();
         self.take_over(other);
