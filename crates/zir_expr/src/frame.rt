@@ -1,6 +1,6 @@
 // The memory of a run: cells, a meter, and the last trap.
 
-ghost use Rattle.std.specs.Prelude.{◌≡◌, ◌-◌, ℕ, pos, length, IfOk};
+ghost use Rattle.std.specs.Prelude.{◌≡◌, ◌-◌, ℕ, pos, length, [], IfOk};
 ghost use Rattle.zir_expr.specs.Memory.{cell_at, put_cell, ticked, trapped, ended, from_base, place_of, address_of, moved};
 
 use std::alloc::{AllocError, Global};
@@ -23,6 +23,11 @@ pub enum Spot {
     Top(u32),
     Local(u32),
 }
+
+const NO_TRAP: Trap = Trap {
+    code: 0,
+    at: Place { line: 0, col: 0 },
+};
 
 /// All cells of a run, how many ticks are used, how many there are, and the last trap.
 #[derive(Debug, Drop)]
@@ -53,11 +58,20 @@ impl Frame {
             cells,
             used: 0,
             limit,
-            trap: Trap {
-                code: 0,
-                at: Place { line: 0, col: 0 },
-            },
+            trap: NO_TRAP,
         })
+    }
+
+    /// No cells and no ticks.
+    pub fn empty(alloc: Global) -> Frame
+        ensures { length result.cells ≡ 0 }
+    {
+        Frame {
+            cells: Vec::new(alloc),
+            used: 0,
+            limit: 0,
+            trap: NO_TRAP,
+        }
     }
 
     /// How many ticks are used.
@@ -65,6 +79,33 @@ impl Frame {
         ensures { result ≡ self.now.used }
     {
         self.used
+    }
+
+    /// How many ticks there are.
+    pub fn limit(&self) -> u64
+        ensures { result ≡ self.now.limit }
+    {
+        self.limit
+    }
+
+    /// The meter shows so many ticks used, and there are so many.
+    pub fn restart(&mut self, used: u64, limit: u64)
+        ensures { self.new ≡ record self.old { used = used; limit = limit } }
+    {
+        self.used = used;
+        self.limit = limit;
+    }
+
+    /// The cells go over to another frame, with the meter and the trap as they are.
+    pub fn lend(&mut self, to: &mut Frame)
+        ensures kept { self.new ≡ record self.old { cells = [] } }
+        ensures lent { to.new ≡ self.old }
+    {
+        to.cells.clear();
+        std::mem::swap(&mut self.cells, &mut to.cells);
+        to.used = self.used;
+        to.limit = self.limit;
+        to.trap = self.trap;
     }
 
     /// The last trap.

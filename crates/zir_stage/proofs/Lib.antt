@@ -1,0 +1,4 @@
+pub mod Composing
+pub mod Forking
+pub mod Staying
+pub mod Turning
