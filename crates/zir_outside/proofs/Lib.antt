@@ -1,3 +1,3 @@
 pub mod AppendsLemmas
-pub mod Finds
+pub mod StockLemmas
 pub mod TextLemmas

@@ -1,8 +1,9 @@
 pub mod Calls
 pub mod Causes
+pub mod Lengthens
 pub mod Loads
 pub mod Memory
 pub mod Reads
+pub mod Real
 pub mod Sinks
 pub mod Texts
-pub mod Real

@@ -3,12 +3,15 @@
 #![tactic(auto)]
 
 mod calls;
+mod kept;
 pub mod memory;
 pub mod real;
+mod stored;
 
 ghost use Rattle.std.specs.Prelude.{ℕ, ◌≡◌, ◌≤◌, ◌⊎◌, [], List, Option, IfOk, OnOk, OnErr, IsErrOf, length};
 ghost use Rattle.zir_outside.specs.Causes.{HasCause, Rose};
 ghost use Rattle.zir_outside.specs.Reads.{Reads};
+ghost use Rattle.zir_outside.specs.Lengthens.{Lengthens};
 ghost use Rattle.zir_outside.specs.Loads.{Loads, IsAbsent};
 ghost use Rattle.zir_outside.specs.Sinks.{Grew, GrewPart, Tells};
 ghost use Rattle.zir_outside.specs.declared.LoadError.TheVariants.{Memory};
@@ -78,7 +81,7 @@ pub trait Sink {
         ensures cause { HasCause (faults self.old) (faults self.new) result };
 }
 
-/// Texts that are loaded by their names.
+/// Texts by their names.
 pub trait Shelf {
     // The texts by their names, where it tells them.
     ghost texts: { Self → Option (List ℕ → Option (List ℕ)) };
@@ -94,6 +97,12 @@ pub trait Shelf {
         ensures same { texts self.new ≡ texts self.old }
         ensures later { faults self.old ≤ faults self.new }
         ensures cause { IsErrOf result LoadError.Failed → Rose (faults self.old) (faults self.new) ⊎ IsAbsent (texts self.old) name.now };
+
+    /// Puts the piece behind the text of this name, which is made where it is absent. After `Failed` a front part of it may have
+    /// been put there.
+    fn append(&mut self, name: &str, piece: &[u8]) -> Result<(), Failed>
+        ensures lengthens { Lengthens (texts self.old) (texts self.new) name.now piece.now result }
+        ensures cause { HasCause (faults self.old) (faults self.new) result };
 }
 
 /// Is told that a turn of a stage starts.

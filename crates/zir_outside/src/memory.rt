@@ -1,22 +1,74 @@
-//! A source, a sink and a shelf in memory, which fail where they are told to.
+//! Sources, a sink and a shelf in memory, which fail where they are told to.
 
-ghost use Rattle.std.specs.Prelude.{ℕ, ◌≢◌, All, None, IsNone, IsErrOf, string_bytes, ◌≡◌, ◌≤◌, ◌<◌, ◌+◌, ◌-◌, ◌↔◌, ◌⊎◌, ◌++◌, [], List, min, drop, length, take, Some, IfOk, OnOk, OnErr, IsTrue, IsErr, is_err, is_ok, vec_len, vec_capacity, if◌then◌else◌};
-ghost use Rattle.std.specs.Option.{option_map};
+ghost use Rattle.std.specs.Prelude.{ℕ, ◌≡◌, ◌≤◌, ◌<◌, ◌+◌, ◌↔◌, ◌⊎◌, ◌++◌, [], List, min, drop, length, Some, IfOk, OnOk, OnErr, IsOk, IsTrue, IsErr, is_err, is_ok, vec_len, vec_capacity, if◌then◌else◌};
 ghost use Rattle.std.specs.Result.{result_unwrap_or};
 
 use crate::calls::Calls;
-use crate::{Failed, Gate, LONGEST_TEXT, LoadError, Shelf, Sink, Source};
+pub use crate::stored::MemShelf;
+use crate::{Failed, Gate, Sink, Source};
 use std::alloc::{AllocError, Global};
+
+/// Gives bytes in pieces, and never fails.
+#[derive(Debug, Drop)]
+pub struct SureSource {
+    bytes: Vec<u8>,
+    given: usize,
+    piece: usize,
+    ghost within: { given ≤ vec_len bytes },
+    ghost goes_on: { 1 ≤ piece },
+}
+
+impl SureSource {
+    ghost use Rattle.zir_outside.specs.Memory.{sure_given, sure_piece};
+
+    /// Gives these bytes, at most `piece` of them in a call.
+    pub fn new(bytes: Vec<u8>, piece: usize) -> SureSource
+        requires { 1 ≤ piece }
+        ensures left { ⟦<SureSource as Source>⟧.left result ≡ Some bytes.items }
+        ensures faults { ⟦<SureSource as Source>⟧.faults result ≡ 0 }
+        ensures given { sure_given result ≡ 0 }
+        ensures piece { sure_piece result ≡ piece }
+    {
+        SureSource {
+            bytes,
+            given: 0,
+            piece,
+        }
+    }
+}
+
+impl Source for SureSource {
+    ghost use Rattle.zir_outside.specs.Causes.{HasCause};
+    ghost use Rattle.zir_outside.specs.Memory.{sure_given, sure_left, sure_piece};
+    ghost use Rattle.zir_outside.specs.Reads.{Reads};
+
+    ghost left = { λ s. Some (sure_left s) };
+
+    ghost faults = { λ _. 0 };
+
+    fn read(&mut self, into: &mut [u8]) -> Result<usize, Failed>
+        ensures within { IfOk result (λ n. n ≤ length into.old) }
+        ensures taken { Reads (Some (sure_left self.old)) (Some (sure_left self.new)) into.new result }
+        ensures cause { HasCause 0 0 result }
+        // It never fails, and how much it gives.
+        ensures sure { IsOk result }
+        ensures amount { IfOk result (λ n. n ≡ min (sure_piece self.old) (min (length into.old) (length (sure_left self.old)))) }
+        ensures given { sure_given self.new ≡ sure_given self.old + result_unwrap_or result 0 }
+        ensures piece { sure_piece self.new ≡ sure_piece self.old }
+    {
+        let rest = &self.bytes[self.given..];
+        let n = rest.len().min(self.piece).min(into.len());
+        into[..n].copy_from_slice(&rest[..n]);
+        self.given += n;
+        Ok(n)
+    }
+}
 
 /// Gives bytes in pieces, and fails at the calls that are listed.
 #[derive(Debug, Drop)]
 pub struct MemSource {
-    bytes: Vec<u8>,
-    given: usize,
-    piece: usize,
+    source: SureSource,
     calls: Calls,
-    ghost within: { given ≤ vec_len bytes },
-    ghost goes_on: { 1 ≤ piece },
 }
 
 impl MemSource {
@@ -33,9 +85,7 @@ impl MemSource {
         ensures calls { IsFresh (source_calls result) failing.items }
     {
         MemSource {
-            bytes,
-            given: 0,
-            piece,
+            source: SureSource::new(bytes, piece),
             calls: Calls::new(failing),
         }
     }
@@ -44,7 +94,7 @@ impl MemSource {
     pub fn given(&self) -> usize
         ensures { result ≡ given_of self.now }
     {
-        self.given
+        self.source.given
     }
 }
 
@@ -72,11 +122,7 @@ impl Source for MemSource {
         if self.calls.next_fails() {
             return Err(Failed);
         }
-        let rest = &self.bytes[self.given..];
-        let n = rest.len().min(self.piece).min(into.len());
-        into[..n].copy_from_slice(&rest[..n]);
-        self.given += n;
-        Ok(n)
+        self.source.read(into)
     }
 }
 
@@ -146,85 +192,6 @@ impl Sink for MemSink {
             return Err(Failed);
         }
         self.bytes.extend_from_slice(piece).unwrap();
-        Ok(())
-    }
-}
-
-/// Holds texts with names, and fails at the calls that are listed.
-#[derive(Debug, Drop)]
-pub struct MemShelf {
-    texts: Vec<(String, Vec<u8>)>,
-    calls: Calls,
-}
-
-impl MemShelf {
-    ghost use Rattle.zir_outside.specs.Calls.{IsFresh};
-    ghost use Rattle.zir_outside.specs.Memory.{texts_of, shelf_calls};
-    ghost use Rattle.zir_outside.specs.Texts.{NamesDiffer, text_in};
-
-    /// Holds these texts under their names. The calls listed in `failing`, counted from 1, fail.
-    pub fn new(texts: Vec<(String, Vec<u8>)>, failing: Vec<u64>) -> MemShelf
-        requires { NamesDiffer texts.items }
-        ensures texts { ⟦<MemShelf as Shelf>⟧.texts result ≡ Some (text_in texts.items) }
-        ensures each { All (λ t. text_in texts.items (string_bytes t.0) ≡ Some t.1.items) texts.items }
-        ensures holds { texts_of result ≡ texts.items }
-        ensures faults { ⟦<MemShelf as Shelf>⟧.faults result ≡ 0 }
-        ensures calls { IsFresh (shelf_calls result) failing.items }
-    {
-        MemShelf {
-            texts,
-            calls: Calls::new(failing),
-        }
-    }
-
-    /// The text with this name.
-    pub fn text(&self, name: &str) -> Option<&[u8]>
-        ensures text { option_map (λ text. text.now) result ≡ text_in (texts_of self.now) name.now }
-        ensures none { IsNone result ↔ All (λ t. string_bytes t.0 ≢ name.now) (texts_of self.now) }
-    {
-        for (known, text) in &self.texts {
-            if known.as_str() == name {
-                return Some(text);
-            }
-        }
-        None
-    }
-}
-
-impl Shelf for MemShelf {
-    ghost use Rattle.zir_outside.specs.Calls.{is_next_listed, MadeOne};
-    ghost use Rattle.zir_outside.specs.Causes.{Rose};
-    ghost use Rattle.zir_outside.specs.Loads.{Loads, IsAbsent};
-    ghost use Rattle.zir_outside.specs.Memory.{texts_of, shelf_calls};
-    ghost use Rattle.zir_outside.specs.Texts.{text_in};
-
-    ghost texts = { λ s. Some (text_in (texts_of s)) };
-
-    ghost faults = { λ s. s.calls.faults };
-
-    fn load(&mut self, name: &str, into: &mut Vec<u8>) -> Result<(), LoadError>
-        ensures short { OnOk result (length into.new.items ≤ 65536) }
-        ensures loaded { Loads (Some (text_in (texts_of self.old))) name.now into.new.items result }
-        ensures refused { OnErr result (into.new.items ≡ []) }
-        ensures same { Some (text_in (texts_of self.new)) ≡ Some (text_in (texts_of self.old)) }
-        ensures later { (shelf_calls self.old).faults ≤ (shelf_calls self.new).faults }
-        ensures cause { IsErrOf result LoadError.Failed → Rose (shelf_calls self.old).faults (shelf_calls self.new).faults ⊎ IsAbsent (Some (text_in (texts_of self.old))) name.now }
-        // Whether a call fails, and that nothing else is a fault.
-        ensures failed { IsErrOf result LoadError.Failed ↔ (IsTrue (is_next_listed (shelf_calls self.old)) ⊎ (text_in (texts_of self.old) name.now ≡ None)) }
-        ensures counted { MadeOne (shelf_calls self.old) (shelf_calls self.new) (is_next_listed (shelf_calls self.old)) }
-        ensures holds { texts_of self.new ≡ texts_of self.old }
-    {
-        into.clear();
-        if self.calls.next_fails() {
-            return Err(LoadError::Failed);
-        }
-        let Some(text) = self.text(name) else {
-            return Err(LoadError::Failed);
-        };
-        if text.len() > LONGEST_TEXT {
-            return Err(LoadError::TooLong);
-        }
-        into.extend_from_slice(text)?;
         Ok(())
     }
 }

@@ -7,6 +7,7 @@ ghost use Rattle.zir_outside.specs.Causes.{CountsFault, one_more};
 
 use crate::{Failed, LONGEST_TEXT, LoadError, Shelf, Sink, Source};
 use std::fs;
+use std::fs::OpenOptions;
 use std::io::{Read, Write};
 use std::rt::Files;
 
@@ -168,7 +169,7 @@ fn write_whole<W: Write>(writer: &mut W, piece: &[u8]) -> Result<(), Failed>
     }
 }
 
-/// Loads texts from the files that their names are paths of.
+/// Loads texts from the files that their names are paths of, and appends to these files.
 #[derive(Debug, Drop)]
 pub struct FileShelf<R> {
     files: R,
@@ -178,7 +179,7 @@ pub struct FileShelf<R> {
 impl<R> FileShelf<R> {
     ghost use Rattle.zir_outside.specs.Real.{shelf_faults};
 
-    /// Loads from these files.
+    /// Loads from these files and appends to them.
     pub fn new(files: R) -> FileShelf<R>
         ensures { shelf_faults result ≡ 0 }
     {
@@ -187,7 +188,8 @@ impl<R> FileShelf<R> {
 }
 
 impl<R: Files> Shelf for FileShelf<R> {
-    ghost use Rattle.zir_outside.specs.Causes.{Rose};
+    ghost use Rattle.zir_outside.specs.Causes.{HasCause, Rose};
+    ghost use Rattle.zir_outside.specs.Lengthens.{Lengthens};
     ghost use Rattle.zir_outside.specs.Loads.{Loads, IsAbsent};
     ghost use Rattle.zir_outside.specs.Real.{shelf_faults};
 
@@ -208,6 +210,25 @@ impl<R: Files> Shelf for FileShelf<R> {
             }
         }
         loaded
+    }
+
+    fn append(&mut self, name: &str, piece: &[u8]) -> Result<(), Failed>
+        ensures lengthens { Lengthens None None name.now piece.now result }
+        ensures cause { HasCause (shelf_faults self.old) (shelf_faults self.new) result }
+        // Each error is counted.
+        ensures counted { CountsFault (shelf_faults self.old) (shelf_faults self.new) (is_err result) }
+    {
+        let opened = OpenOptions::new()
+            .append(true)
+            .create(true)
+            .open(&self.files, name);
+        match opened {
+            Ok(mut file) => write_counted(&mut file, piece, &mut self.faults),
+            Err(_) => {
+                self.faults = self.faults.saturating_add(1);
+                Err(Failed)
+            }
+        }
     }
 }
 

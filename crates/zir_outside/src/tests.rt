@@ -1,6 +1,6 @@
 ghost use Rattle.std.specs.Prelude.{◌≢◌, ◌≤◌, length, IfOk};
 
-use crate::memory::{MemShelf, MemSink, MemSource, Open};
+use crate::memory::{MemShelf, MemSink, MemSource, Open, SureSource};
 use crate::real::{FileShelf, StdInput, StdNotes, StdOutput};
 use crate::{Failed, Gate, LoadError, Shelf, Sink, Source};
 use std::alloc::{AllocError, Global};
@@ -16,6 +16,7 @@ fn is_sync<T: Sync + Drop>(_value: T) {}
 fn objects_cross_threads(rt: HostRuntime) -> Result<(), Fail> {
     let alloc = rt.alloc();
     is_send(MemSource::new(Vec::new(alloc), 1, Vec::new(alloc)));
+    is_send(SureSource::new(Vec::new(alloc), 1));
     is_send(MemSink::new(alloc, 0, Vec::new(alloc))?);
     is_send(StdInput::new(rt.stdin()));
     is_send(StdOutput::new(rt.stdout()));
@@ -62,7 +63,7 @@ fn loaded<H: Shelf>(alloc: Global, shelf: &mut H, name: &str) -> Result<Vec<u8>,
     Ok(text)
 }
 
-/// A shelf with two texts.
+/// A shelf with two texts, each with three bytes to spare.
 fn shelf_of_two(
     alloc: Global,
     names: (&str, &str),
@@ -79,10 +80,8 @@ fn shelf_of_two(
         String::from_str(alloc, names.1)?,
         vec![in alloc; b'y'; sizes.1]?,
     );
-    Ok(MemShelf::new(
-        vec![in alloc; first, second]?,
-        Vec::from_slice(alloc, failing)?,
-    ))
+    let failing = Vec::from_slice(alloc, failing)?;
+    MemShelf::new(alloc, vec![in alloc; first, second]?, 3, failing)
 }
 
 /// What a source of eight bytes in memory gives.
@@ -109,6 +108,17 @@ fn sources_in_memory(rt: HostRuntime) -> Result<(), Fail> {
             "in pieces of {piece}"
         );
     }
+    Ok(())
+}
+
+#[test]
+fn a_sure_source_gives_all(rt: HostRuntime) -> Result<(), Fail> {
+    let alloc = rt.alloc();
+    let mut source = SureSource::new(Vec::from_slice(alloc, b"abcdefgh")?, 3);
+    assert_eq!(rt;
+        drained(alloc, &mut source)?.as_slice(),
+        b"abcdefgh".as_slice()
+    );
     Ok(())
 }
 
@@ -147,6 +157,31 @@ fn shelves_in_memory(rt: HostRuntime) -> Result<(), Fail> {
         assert_eq!(rt; loaded(alloc, &mut shelf, name)?.len(), want, "{name}");
     }
     assert_eq!(rt; shelf.text("pq").map_or(0, |text| text.len()), 65_537);
+    Ok(())
+}
+
+#[test]
+fn shelves_in_memory_take_pieces(rt: HostRuntime) -> Result<(), Fail> {
+    let alloc = rt.alloc();
+    let mut shelf = shelf_of_two(alloc, ("p", "q"), (1, 1), &[2])?;
+    let cases = [
+        ("p", "ab", true),
+        ("p", "c", false),
+        ("p", "cd", false),
+        ("p", "c", true),
+        ("r", "abcd", false),
+        ("r", "ab", true),
+        ("s", "", false),
+        ("r", "c", true),
+    ];
+    for (name, piece, done) in cases {
+        let put = shelf.append(name, piece.as_bytes());
+        assert_eq!(rt; put.is_ok(), done, "{piece} to {name}");
+    }
+    for (name, want) in [("p", "xabc"), ("q", "y"), ("r", "abc")] {
+        let text = loaded(alloc, &mut shelf, name)?;
+        assert_eq!(rt; text.as_slice(), want.as_bytes(), "{name}");
+    }
     Ok(())
 }
 
@@ -252,5 +287,21 @@ fn texts_come_from_files(rt: HostRuntime) -> Result<(), Fail> {
     for (name, want) in [(path.as_str(), 6), ("/dev/zero", 8), ("/", 6)] {
         assert_eq!(rt; loaded(alloc, &mut shelf, name)?.len(), want, "{name}");
     }
+    Ok(())
+}
+
+#[test]
+fn pieces_go_to_files(rt: HostRuntime) -> Result<(), Fail> {
+    let alloc = rt.alloc();
+    let path = own_path(&rt)?;
+    let mut shelf = FileShelf::new(&rt);
+    for (name, done) in [(path.as_str(), true), (path.as_str(), true), ("/", false)] {
+        assert_eq!(rt; shelf.append(name, b"ab").is_ok(), done, "{name}");
+    }
+    assert_eq!(rt;
+        loaded(alloc, &mut shelf, &path)?.as_slice(),
+        b"abab".as_slice()
+    );
+    fs::remove_file(&rt, &path)?;
     Ok(())
 }

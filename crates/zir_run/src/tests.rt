@@ -35,7 +35,7 @@ struct Told {
 fn shelf(alloc: Global) -> Result<MemShelf, AllocError> {
     let name = String::from_str(alloc, "p")?;
     let text = Vec::from_slice(alloc, TURNS.as_bytes())?;
-    Ok(MemShelf::new(vec![in alloc; (name, text)]?, Vec::new(alloc)))
+    MemShelf::new(alloc, vec![in alloc; (name, text)]?, 0, Vec::new(alloc))
 }
 
 /// Runs the text of a name over the bytes 00 and ff, of which so many at most come in a read.
