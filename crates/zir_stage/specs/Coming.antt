@@ -42,18 +42,18 @@ abbrev pub Went : List Instruction → ℕ → Thread → Thread → Type 0
 Went code n th th' = (room : Room) → turned_on n code (Alone th room) ≡ Going (Alone th' room)
 
 -- a thread has gone on for so many turns, and then come to a pause
-abbrev pub Paused : List Instruction → ℕ → Thread → Pause → Thread → Type 0
-Paused code n th p th' = (at : Thread) × (Went code n th at) × (move code at ≡ moved_as p (joint_at code at.place) th')
+abbrev pub Reaches : List Instruction → ℕ → Thread → Pause → Thread → Type 0
+Reaches code n th p th' = (at : Thread) × (Went code n th at) × (move code at ≡ moved_as p (joint_at code at.place) th')
 
 -- a thread has gone on for so many turns, and then come to a pause, if there is one
 abbrev pub Paced : List Instruction → ℕ → Thread → Pause → Thread → Type 0
 Paced code n th Goes th' = Went code n th th'
-Paced code n th (Offers at k) th' = Paused code n th (Offers at k) th'
-Paced code n th Wants th' = Paused code n th Wants th'
-Paced code n th Halts th' = Paused code n th Halts th'
-Paced code n th (Fails t) th' = Paused code n th (Fails t) th'
-Paced code n th Spends th' = Paused code n th Spends th'
-Paced code n th Forks th' = Paused code n th Forks th'
+Paced code n th (Offers at k) th' = Reaches code n th (Offers at k) th'
+Paced code n th Wants th' = Reaches code n th Wants th'
+Paced code n th Halts th' = Reaches code n th Halts th'
+Paced code n th (Fails t) th' = Reaches code n th (Fails t) th'
+Paced code n th Spends th' = Reaches code n th Spends th'
+Paced code n th Forks th' = Reaches code n th Forks th'
 
 -- the elements and ticks at the point where a thread is
 abbrev pub point_of : Thread → Stamp
