@@ -1,6 +1,6 @@
 -- Cells that are copied into a frame and out of it.
-use Rattle.std.specs.Prelude.{ℕ, suc, ℤ, pos, ◌+◌, ◌<◌, ◌≤◌, ◌^◌, ◌%◌, List, [], ◌∷◌, ◌≡◌, ◌⊎◌, refl, length, slice_index_or}
-use Rattle.std.proofs.Common.{ap, sym, subst, inl, inr, ◌∙◌, arith}
+use Rattle.std.specs.Prelude.{ℕ, suc, ℤ, pos, ◌+◌, ◌<◌, ◌≤◌, ◌^◌, List, [], ◌∷◌, ◌≡◌, refl, length, slice_index_or}
+use Rattle.std.proofs.Common.{ap, sym, subst, inl, ◌∙◌, arith}
 use Rattle.zir_expr.specs.Memory.{cell_at, put_cell, after}
 use Rattle.zir_expr.specs.Memory.Frames.{Memory}
 use Rattle.zir_code.specs.Holding.{At}

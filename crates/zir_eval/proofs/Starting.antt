@@ -1,25 +1,20 @@
 -- What holds at the top of a program.
-use Rattle.std.specs.Prelude.{ℕ, zero, suc, ℤ, pos, ◌+◌, ◌<◌, ◌≤◌, ◌^◌, List, [], ◌∷◌, true, Option, ◌≡◌, nat_lt, length, map, slice_index_or, replicate, refl}
+use Rattle.std.specs.Prelude.{ℕ, zero, suc, ℤ, pos, ◌+◌, ◌<◌, ◌≤◌, ◌^◌, List, [], ◌∷◌, ◌≡◌, length, slice_index_or, refl}
 use Rattle.std.proofs.Common.{ap, sym, subst, ◌∙◌, arith}
 use Rattle.std.proofs.lemmas.Bool.Decides.{nat_tests}
 use Rattle.std.proofs.lemmas.List.Sums.{sum_by-cons}
 use Rattle.zir_tree.specs.declared.types.StructDef.{StructDef}
 use Rattle.zir_tree.specs.declared.stmt.Var.{Var}
-use Rattle.zir_tree.specs.declared.program.Core.{Core}
 use Rattle.zir_meaning.specs.Values.{type_of, blanks_of}
-use Rattle.zir_meaning.specs.Functions.{library_of}
-use Rattle.zir_cells.specs.Cells.{cells_of}
-use Rattle.zir_cells.specs.Layout.{layout_of}
 use Rattle.zir_shapes.specs.Shapes.{Ordered}
 use Rattle.zir_shapes.proofs.Blank.{blanks-have}
 use Rattle.zir_shapes.specs.Offsets.{zeros}
-use Rattle.zir_expr.specs.Memory.Frames.{Memory}
 use Rattle.zir_code.specs.declared.scope.Holder.{Holder}
-use Rattle.zir_code.specs.Holding.{At, Hold, InOrder, Holds}
+use Rattle.zir_code.specs.Holding.{At, Hold, InOrder}
 use Rattle.zir_code.specs.Calls.{AllTop}
 use Rattle.zir_compile.specs.Signing.{no_signature, signatures_of}
 use Rattle.zir_compile.proofs.Typed.{all_signed}
-use Rattle.zir_eval.specs.Opening.{cells_for_var, cells_for_vars, top_holder, top_holders, held_cells, top_cells, program_scope, IsBlank, blank_slots, VarsKnown, KnowsTypes}
+use Rattle.zir_eval.specs.Opening.{cells_for_var, cells_for_vars, top_holder, top_holders, held_cells, top_cells, blank_slots, VarsKnown}
 use Rattle.zir_eval.specs.Laws.{BlankFramesHold, FunctionsMean}
 use Rattle.zir_eval.proofs.Laws.{functions_agree}
 

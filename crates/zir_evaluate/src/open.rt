@@ -1,7 +1,7 @@
 // A program that is opened for its evaluation.
 
 use std::alloc::{AllocError, AllocFailed, Global};
-use zir_accept::accept;
+use zir_accept::{Accepted, accept};
 use zir_compile::made::{Made, Written};
 use zir_compile::scope::Names;
 use zir_eval::initials::initials_of;
@@ -66,13 +66,25 @@ pub struct Opened {
 /// Opens the program that a text is.
 pub fn open(alloc: Global, text: &[u8]) -> Result<Opened, Fault> {
     match accept(alloc, text) {
-        Ok(accepted) => open_core(alloc, &accepted.core),
-        Err(Refusal::Memory) => Err(Fault::Memory),
-        Err(_) => Err(Fault::Refused),
+        Ok(accepted) => open_accepted(alloc, accepted),
+        Err(why) => Err(fault_of(why)),
+    }
+}
+
+/// Why a text that is refused is not run.
+fn fault_of(why: Refusal) -> Fault {
+    match why {
+        Refusal::Memory => Fault::Memory,
+        _ => Fault::Refused,
     }
 }
 
 /// Opens a program that is accepted.
+fn open_accepted(alloc: Global, accepted: Accepted) -> Result<Opened, Fault> {
+    open_core(alloc, &accepted.core)
+}
+
+/// The same of its typed tree.
 fn open_core(alloc: Global, core: &Core) -> Result<Opened, Fault> {
     let Comp::Do(content, _) = &core.main else {
         return Err(Fault::NoDo);

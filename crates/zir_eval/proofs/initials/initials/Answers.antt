@@ -1,4 +1,4 @@
-use Rattle.std.proofs.Common.{◌≡◌, ◌+◌, ◌∷◌, List, [], ap, subst, sym, drop}
+use Rattle.std.proofs.Common.{◌+◌, ◌∷◌, List, [], subst, sym, drop}
 use Rattle.std.proofs.lemmas.List.{drop_all}
 use Rattle.zir_tree.specs.declared.stmt.Var.{Var}
 use Rattle.zir_compile.specs.Names.{scope_of}
