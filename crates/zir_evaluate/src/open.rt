@@ -65,26 +65,22 @@ pub struct Opened {
 
 /// Opens the program that a text is.
 pub fn open(alloc: Global, text: &[u8]) -> Result<Opened, Fault> {
-    match accept(alloc, text) {
-        Ok(accepted) => open_accepted(alloc, accepted),
-        Err(why) => Err(fault_of(why)),
-    }
+    let verdict = accept(alloc, text);
+    let opened = open_judged(alloc, &verdict);
+    drop(verdict);
+    opened
 }
 
-/// Why a text that is refused is not run.
-fn fault_of(why: Refusal) -> Fault {
-    match why {
-        Refusal::Memory => Fault::Memory,
-        _ => Fault::Refused,
+/// Opens a program with the verdict on it.
+fn open_judged(alloc: Global, verdict: &Result<Accepted, Refusal>) -> Result<Opened, Fault> {
+    match verdict {
+        Ok(accepted) => open_core(alloc, &accepted.core),
+        Err(Refusal::Memory) => Err(Fault::Memory),
+        Err(_) => Err(Fault::Refused),
     }
 }
 
 /// Opens a program that is accepted.
-fn open_accepted(alloc: Global, accepted: Accepted) -> Result<Opened, Fault> {
-    open_core(alloc, &accepted.core)
-}
-
-/// The same of its typed tree.
 fn open_core(alloc: Global, core: &Core) -> Result<Opened, Fault> {
     let Comp::Do(content, _) = &core.main else {
         return Err(Fault::NoDo);
