@@ -37,8 +37,7 @@ hold_blanks : (structs : List StructDef) (cells : List ℤ) (base i : ℕ) (vs :
 hold_blanks structs cells base i [] o k blank le = tt
 hold_blanks structs cells base i (v ∷ vs) o k blank le =
     let b = blanks-have structs (type_of v.ty) o k.0 in
-    let sum : cells_for_vars structs (v ∷ vs) ≡ cells_for_var structs v + cells_for_vars structs vs = sum_by-cons (cells_for_var structs) v vs in
-    (
+    let sum : cells_for_vars structs (v ∷ vs) ≡ cells_for_var structs v + cells_for_vars structs vs = sum_by-cons (cells_for_var structs) v vs in (
       record {
         id = refl;
         cells = subst (At cells i) (sym b.cells) (zeros_stand cells i (cells_for_var structs v) blank (omega (arith, sum, le)));
@@ -51,8 +50,7 @@ hold_blanks structs cells base i (v ∷ vs) o k blank le =
 order_tops : (structs : List StructDef) (base i : ℕ) (vs : List Var) → InOrder base i (i + cells_for_vars structs vs) (top_holders structs i vs)
 order_tops structs base i [] = omega arith
 order_tops structs base i (v ∷ vs) =
-    let n = cells_for_var structs v in
-    (
+    let n = cells_for_var structs v in (
       omega arith,
       subst (λ high. InOrder base (i + n) high (top_holders structs (i + n) vs))
           (let e : i + n + cells_for_vars structs vs ≡ i + cells_for_vars structs (v ∷ vs) = omega (arith, sum_by-cons (cells_for_var structs) v vs) in e) (order_tops structs base (i + n) vs),
