@@ -1,6 +1,6 @@
 -- Cells that are copied into a frame and out of it.
-use Rattle.std.specs.Prelude.{ℕ, suc, ℤ, pos, ◌+◌, ◌<◌, ◌≤◌, ◌^◌, ◌%◌, List, [], ◌∷◌, ◌≡◌, ◌⊎◌, refl, length, slice_index_or}
-use Rattle.std.proofs.Common.{ap, sym, subst, inl, inr, ◌∙◌, arith}
+use Rattle.std.specs.Prelude.{ℕ, suc, ℤ, pos, ◌+◌, ◌<◌, ◌≤◌, ◌^◌, List, [], ◌∷◌, ◌≡◌, refl, length, slice_index_or}
+use Rattle.std.proofs.Common.{ap, sym, subst, inl, ◌∙◌, arith}
 use Rattle.zir_expr.specs.Memory.{cell_at, put_cell, after}
 use Rattle.zir_expr.specs.Memory.Frames.{Memory}
 use Rattle.zir_code.specs.Holding.{At}
@@ -17,7 +17,7 @@ same_cells m p (x ∷ xs) (y ∷ new) l a r =
     let here : p + 0 ≡ p = omega arith in
     let head : x ≡ y = sym (r 0 (omega arith) ∙ ap (λ i. cell_at i m) here ∙ a.1) in
     let rest : xs ≡ new = same_cells m (p + 1) xs new (omega (arith, l)) a.2
-        (λ k lt. r (suc k) (omega arith) ∙ ap (λ i. cell_at i m) (let e : p + suc k ≡ p + 1 + k = omega arith in e)) in
+    (λ k lt. r (suc k) (omega arith) ∙ ap (λ i. cell_at i m) (let e : p + suc k ≡ p + 1 + k = omega arith in e)) in
     ap (λ z. z ∷ xs) head ∙ ap (λ zs. y ∷ zs) rest
 
 next_place : (p : ℕ) → p + 1 < 2 ^ 64 → after p ≡ p + 1

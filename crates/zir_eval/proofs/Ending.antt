@@ -116,7 +116,6 @@ came_to top base d n g m m' (Got v s') a = a
 came_to top base d n g m m' (Traps u s') a = absurd a
 came_to top base d n g m m' RunsOut a = absurd a
 
-
 halted_by : (top base d n : ℕ) (g : Scope) (w : Trap) (m m' : Memory) (r : Eval) → AgreesStmt top base d n g m r (Trapped w m') →
     HaltedAs top base g m r (ByTrap w) m'
 halted_by top base d n g w m m' (Got v s') a = absurd a

@@ -1,5 +1,5 @@
 -- Single variables in the cells.
-use Rattle.std.specs.Prelude.{ℕ, ℤ, pos, ◌+◌, ◌<◌, ◌≤◌, ◌^◌, ◌%◌, ◌≡◌, List, true, Option, Some, length, slice_index_or}
+use Rattle.std.specs.Prelude.{ℕ, ℤ, ◌+◌, ◌<◌, ◌≤◌, ◌^◌, ◌%◌, ◌≡◌, List, true, Option, Some, length}
 use Rattle.std.proofs.Common.{ap, sym, subst, ◌∙◌, arith}
 use Rattle.zir_meaning.specs.Store.{look_up}
 use Rattle.zir_meaning.specs.Statements.{assign}

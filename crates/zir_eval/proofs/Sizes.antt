@@ -41,7 +41,7 @@ pub variable_stands : (top base d n : ℕ) (g : Scope) (m : Memory) (s : State) 
 variable_stands top base d n g m s id v h q =
     let f : Found g.structs m.cells base (base + d) v (look_up s.store id) = variable_found top base d n g m s id v h q in
     let own : v.cells ≡ layout_of g.structs v.ty = sized g.structs m.cells base g.locals s.store.locals (found_among None g.tops id) id v h.locals
-        (λ r. sized g.structs m.cells base g.tops s.store.tops None id v h.tops (λ x. absurd (nothing x)) r) q in
+    (λ r. sized g.structs m.cells base g.tops s.store.tops None id v h.tops (λ x. absurd (nothing x)) r) q in
     let same = sizes-fit g.structs v.ty (look_up s.store id) f.shape in
     let before = f.before in
     record { cells = f.cells; size = same ∙ sym own; before = omega (arith, same, own, before) } where

@@ -1,25 +1,20 @@
 -- What holds at the top of a program.
-use Rattle.std.specs.Prelude.{ℕ, zero, suc, ℤ, pos, ◌+◌, ◌<◌, ◌≤◌, ◌^◌, List, [], ◌∷◌, true, Option, ◌≡◌, nat_lt, length, map, slice_index_or, replicate, refl}
+use Rattle.std.specs.Prelude.{ℕ, zero, suc, ℤ, pos, ◌+◌, ◌<◌, ◌≤◌, ◌^◌, List, [], ◌∷◌, ◌≡◌, length, slice_index_or, refl}
 use Rattle.std.proofs.Common.{ap, sym, subst, ◌∙◌, arith}
 use Rattle.std.proofs.lemmas.Bool.Decides.{nat_tests}
 use Rattle.std.proofs.lemmas.List.Sums.{sum_by-cons}
 use Rattle.zir_tree.specs.declared.types.StructDef.{StructDef}
 use Rattle.zir_tree.specs.declared.stmt.Var.{Var}
-use Rattle.zir_tree.specs.declared.program.Core.{Core}
 use Rattle.zir_meaning.specs.Values.{type_of, blanks_of}
-use Rattle.zir_meaning.specs.Functions.{library_of}
-use Rattle.zir_cells.specs.Cells.{cells_of}
-use Rattle.zir_cells.specs.Layout.{layout_of}
 use Rattle.zir_shapes.specs.Shapes.{Ordered}
 use Rattle.zir_shapes.proofs.Blank.{blanks-have}
 use Rattle.zir_shapes.specs.Offsets.{zeros}
-use Rattle.zir_expr.specs.Memory.Frames.{Memory}
 use Rattle.zir_code.specs.declared.scope.Holder.{Holder}
-use Rattle.zir_code.specs.Holding.{At, Hold, InOrder, Holds}
+use Rattle.zir_code.specs.Holding.{At, Hold, InOrder}
 use Rattle.zir_code.specs.Calls.{AllTop}
 use Rattle.zir_compile.specs.Signing.{no_signature, signatures_of}
 use Rattle.zir_compile.proofs.Typed.{all_signed}
-use Rattle.zir_eval.specs.Opening.{cells_for_var, cells_for_vars, top_holder, top_holders, held_cells, top_cells, program_scope, IsBlank, blank_slots, VarsKnown, KnowsTypes}
+use Rattle.zir_eval.specs.Opening.{cells_for_var, cells_for_vars, top_holder, top_holders, held_cells, top_cells, blank_slots, VarsKnown}
 use Rattle.zir_eval.specs.Laws.{BlankFramesHold, FunctionsMean}
 use Rattle.zir_eval.proofs.Laws.{functions_agree}
 
@@ -42,8 +37,7 @@ hold_blanks : (structs : List StructDef) (cells : List ℤ) (base i : ℕ) (vs :
 hold_blanks structs cells base i [] o k blank le = tt
 hold_blanks structs cells base i (v ∷ vs) o k blank le =
     let b = blanks-have structs (type_of v.ty) o k.0 in
-    let sum : cells_for_vars structs (v ∷ vs) ≡ cells_for_var structs v + cells_for_vars structs vs = sum_by-cons (cells_for_var structs) v vs in
-    (
+    let sum : cells_for_vars structs (v ∷ vs) ≡ cells_for_var structs v + cells_for_vars structs vs = sum_by-cons (cells_for_var structs) v vs in (
       record {
         id = refl;
         cells = subst (At cells i) (sym b.cells) (zeros_stand cells i (cells_for_var structs v) blank (omega (arith, sum, le)));
@@ -56,8 +50,7 @@ hold_blanks structs cells base i (v ∷ vs) o k blank le =
 order_tops : (structs : List StructDef) (base i : ℕ) (vs : List Var) → InOrder base i (i + cells_for_vars structs vs) (top_holders structs i vs)
 order_tops structs base i [] = omega arith
 order_tops structs base i (v ∷ vs) =
-    let n = cells_for_var structs v in
-    (
+    let n = cells_for_var structs v in (
       omega arith,
       subst (λ high. InOrder base (i + n) high (top_holders structs (i + n) vs))
           (let e : i + n + cells_for_vars structs vs ≡ i + cells_for_vars structs (v ∷ vs) = omega (arith, sum_by-cons (cells_for_var structs) v vs) in e) (order_tops structs base (i + n) vs),

@@ -32,7 +32,12 @@ fn initial(alloc: Global, names: &Names, v: &Var, steps: &mut Vec<Step>) -> Resu
 }
 
 /// The same for variables, in the order of the text.
-fn initials(alloc: Global, names: &Names, variables: &[Var], steps: &mut Vec<Step>) -> Result<u32, Unmade>
+fn initials(
+    alloc: Global,
+    names: &Names,
+    variables: &[Var],
+    steps: &mut Vec<Step>,
+) -> Result<u32, Unmade>
     ensures { let g = scope_of names.now in let ss = opening.initial_assignments variables.now in
         Makes (RowFits g ss 0) (Begun g ss steps.old.items steps.new.items) result }
 {

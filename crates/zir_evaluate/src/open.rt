@@ -1,7 +1,7 @@
 // A program that is opened for its evaluation.
 
 use std::alloc::{AllocError, AllocFailed, Global};
-use zir_accept::accept;
+use zir_accept::{Accepted, accept};
 use zir_compile::made::{Made, Written};
 use zir_compile::scope::Names;
 use zir_eval::initials::initials_of;
@@ -65,7 +65,15 @@ pub struct Opened {
 
 /// Opens the program that a text is.
 pub fn open(alloc: Global, text: &[u8]) -> Result<Opened, Fault> {
-    match accept(alloc, text) {
+    let verdict = accept(alloc, text);
+    let opened = open_judged(alloc, &verdict);
+    drop(verdict);
+    opened
+}
+
+/// Opens a program with the verdict on it.
+fn open_judged(alloc: Global, verdict: &Result<Accepted, Refusal>) -> Result<Opened, Fault> {
+    match verdict {
         Ok(accepted) => open_core(alloc, &accepted.core),
         Err(Refusal::Memory) => Err(Fault::Memory),
         Err(_) => Err(Fault::Refused),

@@ -1,4 +1,4 @@
-use Rattle.std.proofs.Common.{◌≡◌, ◌+◌, ◌∷◌, List, [], ap, subst, sym, drop}
+use Rattle.std.proofs.Common.{◌+◌, ◌∷◌, List, [], subst, sym, drop}
 use Rattle.std.proofs.lemmas.List.{drop_all}
 use Rattle.zir_tree.specs.declared.stmt.Var.{Var}
 use Rattle.zir_compile.specs.Names.{scope_of}
@@ -22,8 +22,7 @@ loop-v-preserved c =
     let g = scope_of c.args.names.now in
     let here : Goes g c.args.variables.now (c.v-item.result ∷ drop (c.loop-v.v-index + 1) c.args.variables.now) c.args.steps.now.items c.loop-v.steps.items c.loop-v.peak =
     subst (λ (vs : List Var). Goes g c.args.variables.now vs c.args.steps.now.items c.loop-v.steps.items c.loop-v.peak)
-    (at_place c.args.variables.now c.loop-v.v-index c.v-item.result c.loop-v-test.true c.v-item.is) c.loop-v.invariant.0 in
-    (
+    (at_place c.args.variables.now c.loop-v.v-index c.v-item.result c.loop-v-test.true c.v-item.is) c.loop-v.invariant.0 in (
       subst (Goes g c.args.variables.now (drop (c.loop-v.v-index + 1) c.args.variables.now) c.args.steps.now.items c.initial.new.steps.items)
           (sym c.max-peak.ensures) (goes_on g c.args.variables.now (drop (c.loop-v.v-index + 1) c.args.variables.now) c.v-item.result
           c.args.steps.now.items c.loop-v.steps.items c.initial.new.steps.items c.loop-v.peak c.in_ok-end.end here c.in_ok-end.ensures.0 c.in_ok-end.ensures.1),

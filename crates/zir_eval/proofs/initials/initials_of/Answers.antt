@@ -1,4 +1,4 @@
-use Rattle.std.proofs.Common.{◌≡◌, List, [], Some, ap, subst, sym, ◌∙◌}
+use Rattle.std.proofs.Common.{List, [], Some, ap, subst, ◌∙◌}
 use Rattle.zir_expr.specs.declared.steps.Step.{Step}
 use Rattle.zir_tree.specs.declared.stmt.Var.{Var}
 use Rattle.zir_compile.specs.declared.made.Written.{Written}

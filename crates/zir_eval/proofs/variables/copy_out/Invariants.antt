@@ -1,4 +1,4 @@
-use Rattle.std.proofs.Common.{◌≡◌, ℕ, pos, ◌+◌, ◌%◌, ◌^◌, ◌<◌, length, slice_index_or}
+use Rattle.std.proofs.Common.{◌≡◌, ℕ, pos, ◌+◌, ◌%◌, ◌^◌, ◌<◌, slice_index_or}
 use Rattle.zir_expr.specs.Memory.{cell_at}
 use Rattle.zir_eval.proofs.variables.copy_out.Given as goal
 

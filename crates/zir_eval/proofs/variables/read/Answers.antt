@@ -1,4 +1,4 @@
-use Rattle.std.proofs.Common.{ap, subst}
+use Rattle.std.proofs.Common.{subst}
 use Rattle.zir_compile.specs.Names.{scope_of}
 use Rattle.zir_eval.specs.Cells.{AreAt}
 use Rattle.zir_eval.proofs.Single.{reads_cells}
