@@ -45,7 +45,8 @@ abbrev pub watching : ℕ → ℕ → ℕ → ℕ → Setting → Scope → Ty �
 watching top base d size st g input c = record {
   holds = HoldsStore top base size g (shape_of st c);
   element = Shaped g.structs input;
-  value = ValueStands g (value_in st g input d c) (from_base base d) }
+  value = ValueStands g (value_in st g input d c) (from_base base d);
+}
 
 -- a thread stands where a component begins, in a state
 pub record Starts (top base d n size : ℕ) (st : Setting) (g : Scope) (c : Comp) (th : Thread) (room : Room) (s : State) : Type 0 where

@@ -46,8 +46,14 @@ left_begins j th spare =
 -- the right side, which takes its own elements and uses its own ticks
 abbrev pub right_begins : Joint → Thread → Thread
 right_begins j th =
-    record { place = from_base (from_base th.place 1) j.right; base = th.base; calls = []; deep = th.deep;
-      memory = record th.memory { used = 0; limit = th.memory.limit - th.memory.used }; taken = 0 }
+    record {
+      place = from_base (from_base th.place 1) j.right;
+      base = th.base;
+      calls = [];
+      deep = th.deep;
+      memory = record th.memory { used = 0; limit = th.memory.limit - th.memory.used };
+      taken = 0;
+    }
 
 -- a composition begins, where there is room
 abbrev pub joined : Joint → Thread → Room → Turned
