@@ -1,5 +1,5 @@
 -- How cells hold what is in scope, and what it is for code to agree with a meaning.
-use Rattle.std.specs.Prelude.{ℕ, ℤ, pos, ◌+◌, ◌<◌, ◌≤◌, ◌^◌, List, [], ◌∷◌, ◌≡◌, length, slice_index_or}
+use Rattle.std.specs.Prelude.{ℕ, ℤ, pos, ◌+◌, ◌<◌, ◌≤◌, ◌^◌, List, [], ◌∷◌, ◌≡◌, ◌⊎◌, length, slice_index_or}
 use Rattle.zir_tree.specs.declared.value.Val.{Val}
 use Rattle.zir_tree.specs.declared.value.Slot.{Slot}
 use Rattle.zir_tree.specs.declared.types.Ty.{Ty}
@@ -50,6 +50,16 @@ pub record Holds (top base d n : ℕ) (g : Scope) (m : Memory) (s : State) : Typ
   pub apart : top ≤ base
   pub room : base + n ≤ length m.cells
   pub small : length m.cells < 2 ^ 63
+
+-- an index is in the cells of none of these variables
+abbrev pub Outside : ℕ → List Holder → ℕ → Type 0
+Outside base [] i = Unit {0}
+Outside base (d ∷ ds) i = ((i < place_of base d.spot) ⊎ (place_of base d.spot + d.cells ≤ i)) × Outside base ds i
+
+-- cells from top on and before base + d that belong to no name of the body are the same
+abbrev pub Spares : ℕ → ℕ → ℕ → Scope → Memory → Memory → Type 0
+Spares top base d g m m' =
+    (i : ℕ) → top ≤ i → i < base + d → Outside base g.locals i → slice_index_or m'.cells i (pos 0) ≡ slice_index_or m.cells i (pos 0)
 
 -- what code leaves: the cells from top on and before base + d are the same
 pub record Kept (top base d : ℕ) (g : Scope) (m m' : Memory) (s s' : State) : Type 0 where

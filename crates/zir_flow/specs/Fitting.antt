@@ -52,46 +52,52 @@ abbrev pub StepFits : Scope → ℕ → ℕ → ℕ → Ty → Ty → Type 0
 StepFits g d n k from to =
     (f : Signature) × (g.funs k ≡ Some f) × (f.params ≡ from ∷ []) × (f.result ≡ to) × (d + max (cells_for g from) (max (cells_for g to) f.needs) ≤ n)
 
+-- a component's outputs, if it gives any, have this type
+abbrev pub EmitsFit : Option Ty → Ty → Type 0
+EmitsFit None out = Unit {0}
+EmitsFit (Some t) out = t ≡ out
+
 abbrev mutual
-  -- a component whose elements have this type is well typed in n cells, those from d on being free
-  pub Flows : Setting → Scope → ℕ → Ty → ℕ → Comp → Type 0
-  Flows st g n input d (TakeComp p) = StructsBefore (length g.structs) input.base × (d + cells_for g input ≤ n)
-  Flows st g n input d (TakesComp k p) = StructsBefore (length g.structs) input.base × (d + k * cells_for g input + 1 ≤ n)
-  Flows st g n input d (Emit e p) = (t : Ty) × Fits g d n t e
-  Flows st g n input d (Emits e p) = (m : ℕ) × (t : Ty) × Fits g d n (array_of m t) e × (d + cells_for g (array_of m t) + 1 ≤ n)
-  Flows st g n input d (ReturnComp e p) = (t : Ty) × Fits g d n t e × (d + cells_for g t ≤ n)
-  Flows st g n input d (Do body p) = DoFits g d n body
-  Flows st g n input d (Repeat' _ (more_of-Comp c end_of-Comp) p) = Flows st g n input d c
-  Flows st g n input d (While' turning e _ (more_of-Comp c end_of-Comp) p) = Fits g d n (plain BoolTy) e × Flows st g n input d c
-  Flows st g n input d (Times' e _ (more_of-Comp c end_of-Comp) p) = Fits g d n (plain Int32) e × (d + 1 ≤ n) × Flows st g n input (d + 1) c
-  Flows st g n input d (For' name a k _ (more_of-Comp c end_of-Comp) p) =
-      Fits g d n (plain Int32) a × Fits g (d + 1) n (plain Int32) k × (d + 4 ≤ n) × Flows st (with_index g (d + 2) name.id) n input (d + 3) c
-  Flows st g n input d (If' e _ (more_of-Comp a end_of-Comp) _ (more_of-Comp b end_of-Comp) p) =
-      Fits g d n (plain BoolTy) e × (value_in st g input d a ≡ value_in st g input d b) × Flows st g n input d a × Flows st g n input d b
-  Flows st g n input d (Map f k p) = (t : Ty) × StepFits g d n k input t
-  Flows st g n input d (Filter f k p) = (d + cells_for g input ≤ n) × StepFits g (d + cells_for g input) n k input (plain BoolTy)
-  Flows st g n input d (Call name k es) =
-      (e : Entry) × (st.entries k ≡ Some e) × (e.input ≡ input) × AllFit g n e.params es × (peak_of_all g es d ≤ n)
+  -- a component whose elements have this type and whose outputs have that is well typed in n cells, those from d on being free
+  pub Flows : Setting → Scope → ℕ → Ty → Ty → ℕ → Comp → Type 0
+  Flows st g n input out d (TakeComp p) = StructsBefore (length g.structs) input.base × (d + cells_for g input ≤ n)
+  Flows st g n input out d (TakesComp k p) = StructsBefore (length g.structs) input.base × (d + k * cells_for g input + 1 ≤ n)
+  Flows st g n input out d (Emit e p) = Fits g d n out e
+  Flows st g n input out d (Emits e p) = (m : ℕ) × Fits g d n (array_of m out) e × (d + cells_for g (array_of m out) + 1 ≤ n)
+  Flows st g n input out d (ReturnComp e p) = (t : Ty) × Fits g d n t e × (d + cells_for g t ≤ n)
+  Flows st g n input out d (Do body p) = DoFits g d n body
+  Flows st g n input out d (Repeat' _ (more_of-Comp c end_of-Comp) p) = Flows st g n input out d c
+  Flows st g n input out d (While' turning e _ (more_of-Comp c end_of-Comp) p) = Fits g d n (plain BoolTy) e × Flows st g n input out d c
+  Flows st g n input out d (Times' e _ (more_of-Comp c end_of-Comp) p) = Fits g d n (plain Int32) e × (d + 1 ≤ n) × Flows st g n input out (d + 1) c
+  Flows st g n input out d (For' name a k _ (more_of-Comp c end_of-Comp) p) =
+      Fits g d n (plain Int32) a × Fits g (d + 1) n (plain Int32) k × (d + 4 ≤ n) × Flows st (with_index g (d + 2) name.id) n input out (d + 3) c
+  Flows st g n input out d (If' e _ (more_of-Comp a end_of-Comp) _ (more_of-Comp b end_of-Comp) p) =
+      Fits g d n (plain BoolTy) e × (value_in st g input d a ≡ value_in st g input d b) × Flows st g n input out d a × Flows st g n input out d b
+  Flows st g n input out d (Map f k p) = StepFits g d n k input out
+  Flows st g n input out d (Filter f k p) =
+      (input ≡ out) × (d + cells_for g input ≤ n) × StepFits g (d + cells_for g input) n k input (plain BoolTy)
+  Flows st g n input out d (Call name k es) =
+      (e : Entry) × (st.entries k ≡ Some e) × (e.input ≡ input) × EmitsFit e.emits out × AllFit g n e.params es × (peak_of_all g es d ≤ n)
       × (d + max (cells_for g (type_or_unit e.value)) e.needs ≤ n)
-  Flows st g n input d (Block' _ ms p) = MembersFlow st g n input d ms
-  Flows st g n input d (Pipe' link _ (more_of-Comp a end_of-Comp) _ (more_of-Comp b end_of-Comp) p) =
+  Flows st g n input out d (Block' _ ms p) = MembersFlow st g n input out d ms
+  Flows st g n input out d (Pipe' link _ (more_of-Comp a end_of-Comp) _ (more_of-Comp b end_of-Comp) p) =
       let between = type_or_unit (output_in st g input d a) in
       OneEnds (value_in st g input d a) (value_in st g between d b) × Distinct g.tops × Distinct g.locals × Apart g.locals g.tops
       × (d + max (cells_for g (type_or_unit (value_in st g input d a))) (cells_for g (type_or_unit (value_in st g between d b))) ≤ n)
-      × Flows st g n input d a × Flows st g n between d b
+      × Flows st g n input between d a × Flows st g n between out d b
 
   -- the members of a block are well typed, each over what is in scope after those before it
-  pub MembersFlow : {k : _} → Setting → Scope → ℕ → Ty → ℕ → Row_of-Member k → Type 0
-  MembersFlow st g n input d end_of-Member = Unit {0}
-  MembersFlow st g n input d (more_of-Member (Bind name c) ms) =
+  pub MembersFlow : {k : _} → Setting → Scope → ℕ → Ty → Ty → ℕ → Row_of-Member k → Type 0
+  MembersFlow st g n input out d end_of-Member = Unit {0}
+  MembersFlow st g n input out d (more_of-Member (Bind name c) ms) =
       let ty = type_or_unit (value_in st g input d c) in
-      Flows st g n input d c × (d + cells_for g ty ≤ n) × MembersFlow st (with_local g d name.id ty) n input (d + cells_for g ty) ms
-  MembersFlow st g n input d (more_of-Member (Var v) ms) =
+      Flows st g n input out d c × (d + cells_for g ty ≤ n) × MembersFlow st (with_local g d name.id ty) n input out (d + cells_for g ty) ms
+  MembersFlow st g n input out d (more_of-Member (Var v) ms) =
       let ty = type_of v.ty in
       StructsBefore (length g.structs) ty.base × (d + cells_for g ty ≤ n) × InitialFits g d n ty v.initial
-      × MembersFlow st (with_local g d v.name.id ty) n input (d + cells_for g ty) ms
-  MembersFlow st g n input d (more_of-Member (RunMember c) ms) =
-      Flows st g n input d c × (d + cells_for g (type_or_unit (value_in st g input d c)) ≤ n) × MembersFlow st g n input d ms
+      × MembersFlow st (with_local g d v.name.id ty) n input out (d + cells_for g ty) ms
+  MembersFlow st g n input out d (more_of-Member (RunMember c) ms) =
+      Flows st g n input out d c × (d + cells_for g (type_or_unit (value_in st g input d c)) ≤ n) × MembersFlow st g n input out d ms
 
 -- how deep an instance's calls go
 abbrev pub entry_depth : Option Entry → ℕ

@@ -40,11 +40,12 @@ pub record ValueStands (g : Scope) (ty : Option Ty) (at : ℕ) (v : Val) (st : S
   pub shape : Shaped g.structs is v
   pub cells : At (seen st).cells at (cells_of v)
 
--- what is watched of a component whose elements have this type and whose cells from d on are free
-abbrev pub watching : ℕ → ℕ → ℕ → ℕ → Setting → Scope → Ty → Comp → Watch
-watching top base d size st g input c = record {
+-- what is watched of a component whose elements have this type and whose outputs have that, and whose cells from d on are free
+abbrev pub watching : ℕ → ℕ → ℕ → ℕ → Setting → Scope → Ty → Ty → Comp → Watch
+watching top base d size st g input out c = record {
   holds = HoldsStore top base size g (shape_of st c);
   element = Shaped g.structs input;
+  output = Shaped g.structs out;
   value = ValueStands g (value_in st g input d c) (from_base base d);
 }
 
@@ -60,9 +61,9 @@ pub record Starts (top base d n size : ℕ) (st : Setting) (g : Scope) (c : Comp
 -- in a program whose instances have these entries, the code of a component that is well typed, with a stop behind it, plays what the component does
 abbrev pub ComponentsPlay : Type 0
 ComponentsPlay =
-    (core : Core) (code : List Instruction) (st : Setting) (top base d n size place : ℕ) (g : Scope) (input : Ty) (c : Comp)
+    (core : Core) (code : List Instruction) (st : Setting) (top base d n size place : ℕ) (g : Scope) (input out : Ty) (c : Comp)
     (th : Thread) (room : Room) (s : State) →
     Calls top (around core).library g.structs g.tops g.funs → PlacesOf core top size g st code → length code < 2 ^ 32 →
-    Flows st g n input d c → CodeAt code place (flow_code st g input d c ++ Stop ∷ []) → th.place ≡ place →
+    Flows st g n input out d c → CodeAt code place (flow_code st g input d c ++ Stop ∷ []) → th.place ≡ place →
     Starts top base d n size st g c th room s →
-    Plays (watching top base d size st g input c) code (acts core c s) (Alone th room)
+    Plays (watching top base d size st g input out c) code (acts core c s) (Alone th room)

@@ -11,10 +11,12 @@ use Rattle.zir_laws.specs.Process.{Proc, Gives, Ends, Needs}
 use Rattle.zir_flow.specs.declared.instruction.Instruction.{Instruction}
 use Rattle.zir_flow.specs.Stages.{Stage, Turned, Going, Giving, Needing, Ended, Failed, Gone, turned_on, handed}
 
--- what is watched of a stage: what holds of it and the store where it stands, which values its elements may have, and where a value stands at its end
+-- what is watched of a stage: what holds of it and the store where it stands, which values its elements and its outputs may have, and where a value stands at
+-- its end
 pub record Watch : Type 1 where
   pub holds : Stage → Store → Type 0
   pub element : Val → Type 0
+  pub output : Val → Type 0
   pub value : Val → Stage → Type 0
 
 -- the elements taken and the ticks of a point; 64 bits count the elements
@@ -34,6 +36,7 @@ pub record GivesAt (w : Watch) (code : List Instruction) (s : Stage) (v : Val) (
   pub comes : Comes code s (Giving (cells_of v) taken ticks s')
   pub at : PointIs p taken ticks
   pub holds : w.holds s' p.store
+  pub output : w.output v
 
 -- it needs an element at a point
 pub record NeedsAt (w : Watch) (code : List Instruction) (s : Stage) (p : Point) (s' : Stage) : Type 0 where

@@ -12,7 +12,7 @@ use Rattle.zir_code.specs.Bodies.{ParametersKnown, cells_of_all, inside}
 use Rattle.zir_flow.specs.declared.instruction.Instruction.{Instruction}
 use Rattle.zir_flow.specs.Kinds.{Entry, Setting, value_in, output_in}
 use Rattle.zir_flow.specs.Flowing.{instance_code}
-use Rattle.zir_flow.specs.Fitting.{Flows, depth_of, shape_of}
+use Rattle.zir_flow.specs.Fitting.{EmitsFit, Flows, depth_of, shape_of}
 
 -- one more entry, at this place
 abbrev pub one_more_entry : (ℕ → Option Entry) → ℕ → Option Entry → ℕ → Option Entry
@@ -34,7 +34,7 @@ pub record HasEntry (g : Scope) (st : Setting) (code : List Instruction) (i : In
   pub emits : e.emits ≡ output_in st (inside g i.params) i.input (cells_of_all g i.params) i.body
   pub fit : cells_of_all g i.params ≤ e.needs
   pub value_fits : cells_of_all g i.params + cells_for g (type_or_unit e.value) ≤ e.needs
-  pub flows : Flows st (inside g i.params) e.needs i.input (cells_of_all g i.params) i.body
+  pub flows : (out : Ty) → EmitsFit e.emits out → Flows st (inside g i.params) e.needs i.input out (cells_of_all g i.params) i.body
   pub depth : depth_of st i.body ≤ e.depth
   pub shape : shape_of st i.body ≡ e.shape
   pub code_stands : CodeAt code e.place (instance_code st g i)
