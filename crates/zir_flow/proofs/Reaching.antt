@@ -1,6 +1,5 @@
 -- Stages that go on: from one to the next, within some turns.
-use Rattle.std.proofs.Common.{◌≡◌, ℕ, zero, suc, ◌+◌, ℤ, List, ap, sym, subst, refl, ◌∙◌, arith}
-use Rattle.zir_tree.specs.declared.ends.Trap.{Trap}
+use Rattle.std.proofs.Common.{◌≡◌, ℕ, zero, suc, ◌+◌, List, ap, sym, subst, refl, ◌∙◌, arith}
 use Rattle.zir_flow.specs.declared.instruction.Instruction.{Instruction}
 use Rattle.zir_flow.specs.Stages.{Stage, Turned, Going, Giving, Needing, Ended, Failed, Gone, turn, going_on, turned_on}
 use Rattle.zir_flow.specs.Playing.{Comes}
@@ -22,21 +21,24 @@ gone_to Gone other = other
 same_going : (s s' : Stage) → Going s ≡ Going s' → s ≡ s'
 same_going s s' e = ap (λ t. gone_to t s) e
 
--- turns, and then others
-mutual
-  on_from : (t : Turned) (n m : ℕ) (code : List Instruction) (s' : Stage) (e : Turned) → going_on (turned_on n code) t ≡ Going s' →
-      turned_on m code s' ≡ e → going_on (turned_on (n + m) code) t ≡ e
-  on_from (Going s) n m code s' e p q = on_and_on n m code s s' e p q
-  on_from (Giving cells taken ticks s) n m code s' e p q = absurd (cc)
-  on_from (Needing taken ticks s) n m code s' e p q = absurd (cc)
-  on_from (Ended taken ticks s) n m code s' e p q = absurd (cc)
-  on_from (Failed t taken ticks s) n m code s' e p q = absurd (cc)
-  on_from Gone n m code s' e p q = absurd (cc)
+-- one turn, and then others
+on_from : (t : Turned) (n m : ℕ) (code : List Instruction) (s' : Stage) (e : Turned) → going_on (turned_on n code) t ≡ Going s' →
+    ((s : Stage) → turned_on n code s ≡ Going s' → turned_on (n + m) code s ≡ e) → going_on (turned_on (n + m) code) t ≡ e
+on_from (Going s) n m code s' e p on = on s p
+on_from (Giving cells taken ticks s) n m code s' e p on = absurd (cc)
+on_from (Needing taken ticks s) n m code s' e p on = absurd (cc)
+on_from (Ended taken ticks s) n m code s' e p on = absurd (cc)
+on_from (Failed t taken ticks s) n m code s' e p on = absurd (cc)
+on_from Gone n m code s' e p on = absurd (cc)
 
-  pub on_and_on : (n m : ℕ) (code : List Instruction) (s s' : Stage) (e : Turned) → turned_on n code s ≡ Going s' → turned_on m code s' ≡ e →
-      turned_on (n + m) code s ≡ e
-  on_and_on zero m code s s' e p q = subst (λ x. turned_on m code x ≡ e) (sym (same_going s s' p)) q
-  on_and_on (suc n) m code s s' e p q = on_from (turn code s) n m code s' e p q
+-- turns, and then others
+pub on_and_on : (n m : ℕ) (code : List Instruction) (s s' : Stage) (e : Turned) → turned_on n code s ≡ Going s' → turned_on m code s' ≡ e →
+    turned_on (n + m) code s ≡ e
+on_and_on zero m code s s' e p q =
+    let same : m ≡ 0 + m = omega arith in subst (λ k. turned_on k code s ≡ e) same (subst (λ x. turned_on m code x ≡ e) (sym (same_going s s' p)) q)
+on_and_on (suc n) m code s s' e p q =
+    let same : suc (n + m) ≡ suc n + m = omega arith in
+    subst (λ k. turned_on k code s ≡ e) same (on_from (turn code s) n m code s' e p (λ x r. on_and_on n m code x s' e r q))
 
 -- a stage is where it is
 pub stays : (code : List Instruction) (s : Stage) → Reaches code s s
