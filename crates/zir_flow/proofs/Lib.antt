@@ -1,3 +1,5 @@
 pub mod Reaching
 pub mod Playing
 pub mod Standing
+pub mod Straight
+pub mod Giving
