@@ -204,7 +204,7 @@ order_parameters g base i n (p ∷ ps) small le =
     )
 
 -- what holds where a body begins is what its statements want
-begun : (top base n : ℕ) (g : Scope) (ps : List Field) (vs : List Val) (m : Memory) (s : State) → Begins top base n g ps vs m s →
+pub begun : (top base n : ℕ) (g : Scope) (ps : List Field) (vs : List Val) (m : Memory) (s : State) → Begins top base n g ps vs m s →
     Holds top base (cells_of_all g ps) n (inside g ps) m (entered ps vs s)
 begun top base n g ps vs m s b =
     let room : base + n ≤ length m.cells = b.room in

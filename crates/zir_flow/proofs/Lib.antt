@@ -2,4 +2,5 @@ pub mod Reaching
 pub mod Playing
 pub mod Standing
 pub mod Straight
-pub mod Giving
+pub mod Further
+pub mod Choosing
