@@ -4,3 +4,4 @@ pub mod Standing
 pub mod Straight
 pub mod Further
 pub mod Choosing
+pub mod Calling
