@@ -5,3 +5,4 @@ pub mod Straight
 pub mod Further
 pub mod Choosing
 pub mod Calling
+pub mod Settling
