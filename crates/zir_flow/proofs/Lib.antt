@@ -6,3 +6,4 @@ pub mod Further
 pub mod Choosing
 pub mod Calling
 pub mod Settling
+pub mod Members
