@@ -7,3 +7,4 @@ pub mod Choosing
 pub mod Calling
 pub mod Settling
 pub mod Members
+pub mod Instances

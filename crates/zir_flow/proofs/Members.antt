@@ -108,7 +108,8 @@ kept_smaller a g ls d d' m m1 st store le w p h = record {
 
 -- what is known of the ground in one scope is known in the other
 pub solid_names : (a : Ground) (g : Scope) (ls : List Holder) → Solid a g → Solid a (with_names g ls)
-solid_names a g ls s = record { functions = s.functions; assigned = s.assigned; small = s.small; entries = s.entries }
+solid_names a g ls s =
+    record { functions = s.functions; assigned = s.assigned; small = s.small; proceeds = s.proceeds; entries = s.entries }
 
 all_and : (base low : ℕ) (ds : List Holder) (d : Holder) → AllFrom base low ds → low ≤ place_of base d.spot → AllFrom base low (ds ++ d ∷ [])
 all_and base low [] d f le = (le, tt)
