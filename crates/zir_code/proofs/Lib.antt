@@ -28,6 +28,7 @@ pub mod Roots
 pub mod Rows
 pub mod Scopes
 pub mod Simulation
+pub mod Sparing
 pub mod Statements
 pub mod Stores
 pub mod Storing

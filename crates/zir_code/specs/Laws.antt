@@ -10,6 +10,7 @@ use Rattle.zir_meaning.specs.Evaluation.{Library, ev}
 use Rattle.zir_meaning.specs.Statements.{does_all}
 use Rattle.zir_meaning.specs.Functions.{library_of}
 use Rattle.zir_shapes.specs.Shapes.{Ordered}
+use Rattle.zir_expr.specs.Memory.{Done}
 use Rattle.zir_expr.specs.Memory.Frames.{Memory}
 use Rattle.zir_expr.specs.Running.{go_all}
 use Rattle.zir_code.specs.declared.scope.Holder.{Holder}
@@ -19,7 +20,7 @@ use Rattle.zir_code.specs.Types.{type_in}
 use Rattle.zir_code.specs.Coding.{stands, code_of}
 use Rattle.zir_code.specs.Peaks.{peak_of}
 use Rattle.zir_code.specs.Typing.{Has}
-use Rattle.zir_code.specs.Holding.{Holds, Agrees}
+use Rattle.zir_code.specs.Holding.{Holds, Spares, Agrees}
 use Rattle.zir_code.specs.Fine.{AgreesStmt}
 use Rattle.zir_code.specs.Bodies.{all_code, scope_after_all, free_after_all, FineAll}
 use Rattle.zir_code.specs.Calls.{AllTop, Calls}
@@ -39,6 +40,13 @@ StatementsAgree =
     (top base d n : ℕ) (l : Library) (g : Scope) → Calls top l g.structs g.tops g.funs →
     (statements : List Stmt) (m : Memory) (s : State) → FineAll g d n statements → Holds top base d n g m s →
     AgreesStmt top base (free_after_all g d statements) n (scope_after_all g d statements) m (does_all l statements s) (go_all (all_code g d statements) base m)
+
+-- where statements come to their end, the cells that belong to no variable in scope before them are as they were
+abbrev pub StatementsSpare : Type 0
+StatementsSpare =
+    (top base d n : ℕ) (l : Library) (g : Scope) → Calls top l g.structs g.tops g.funs →
+    (statements : List Stmt) (m m' : Memory) (s : State) → FineAll g d n statements → Holds top base d n g m s →
+    go_all (all_code g d statements) base m ≡ Done m' → Spares top base d g m m'
 
 -- where functions have these signatures, each over those before it, the code of each does what the function means in the program
 abbrev pub FunctionsAgree : Type 0
