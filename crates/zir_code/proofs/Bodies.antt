@@ -45,6 +45,7 @@ adds_all g d [] = adds_none g
 adds_all g d (a ∷ more) = adds_both g (scope_after g d a) (scope_after_all (scope_after g d a) (free_after g d a) more) (adds_statement g d a)
     (adds_all (scope_after g d a) (free_after g d a) more)
 
+-- the names that a list of statements adds
 grows_all : (base d n : ℕ) (g : Scope) (ss : List Stmt) → base + n < 2 ^ 63 → FineAll g d n ss →
     Grows base d (free_after_all g d ss) g (scope_after_all g d ss)
 grows_all base d n g [] small f = grows_none base d g

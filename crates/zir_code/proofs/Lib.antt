@@ -9,6 +9,7 @@ pub mod Calls
 pub mod Calm
 pub mod Cells
 pub mod Complexes
+pub mod Framing
 pub mod Gathering
 pub mod Indexing
 pub mod Kept

@@ -22,7 +22,8 @@ use Rattle.zir_code.proofs.Alike.{Alike, Adds, adds_row, stopped_in}
 
 -- the names of a scope leave it
 pub leaves : (top base d d' n k : ℕ) (g g' : Scope) (m : Memory) (r : Eval) (q : Ran) → k ≡ length g.locals → Adds g g' →
-    Grows base d d' g g' → InOrder base 0 top g.tops → InOrder base base (base + d) g.locals → AgreesStmt top base d' n g' m r q → AgreesStmt top base d n g m (left_by k r) q
+    Grows base d d' g g' → InOrder base 0 top g.tops → InOrder base base (base + d) g.locals → AgreesStmt top base d' n g' m r q →
+    AgreesStmt top base d n g m (left_by k r) q
 leaves top base d d' n k g g' m (Got v s') (Done m') e x grows ot ol a =
     let h = a.holds in
     let kept : Hold g'.structs m'.cells base g.locals (take (length g.locals) s'.store.locals) =

@@ -40,15 +40,18 @@ fewer base d d' g le i a o = (omega arith, o)
 pub spares_both : (top base d : ℕ) (g : Scope) (m m1 m2 : Memory) → Spares top base d g m m1 → Spares top base d g m1 m2 → Spares top base d g m m2
 spares_both top base d g m m1 m2 k l i a b o = l i a b o ∙ k i a b o
 
-outside_front : (base : ℕ) (ds es : List Holder) (i : ℕ) → Outside base (ds ++ es) i → Outside base ds i
+-- an index of none of more variables is of none of the first of them
+pub outside_front : (base : ℕ) (ds es : List Holder) (i : ℕ) → Outside base (ds ++ es) i → Outside base ds i
 outside_front base [] es i o = tt
 outside_front base (d ∷ ds) es i o = (o.0, outside_front base ds es i o.1)
 
-outside_back : (base : ℕ) (ds es : List Holder) (i : ℕ) → Outside base (ds ++ es) i → Outside base es i
+-- nor of the others
+pub outside_back : (base : ℕ) (ds es : List Holder) (i : ℕ) → Outside base (ds ++ es) i → Outside base es i
 outside_back base [] es i o = o
 outside_back base (d ∷ ds) es i o = outside_back base ds es i o.1
 
-outside_both : (base : ℕ) (ds es : List Holder) (i : ℕ) → Outside base ds i → Outside base es i → Outside base (ds ++ es) i
+-- and of none of the first and none of the others it is of none
+pub outside_both : (base : ℕ) (ds es : List Holder) (i : ℕ) → Outside base ds i → Outside base es i → Outside base (ds ++ es) i
 outside_both base [] es i o p = p
 outside_both base (d ∷ ds) es i o p = (o.0, outside_both base ds es i o.1 p)
 
@@ -66,10 +69,12 @@ abbrev Tiles : ℕ → ℕ → ℕ → List Holder → Type 0
 Tiles base low high [] = low ≡ high
 Tiles base low high (d ∷ ds) = (place_of base d.spot ≡ low) × Tiles base (low + d.cells) high ds
 
+-- those of more variables, behind the last of these
 tiles_both : (base low mid high : ℕ) (ds es : List Holder) → Tiles base low mid ds → Tiles base mid high es → Tiles base low high (ds ++ es)
 tiles_both base low mid high [] es t u = subst (λ k. Tiles base k high es) (sym t) u
 tiles_both base low mid high (d ∷ ds) es t u = (t.0, tiles_both base (low + d.cells) mid high ds es t.1 u)
 
+-- they end where they begin or behind it
 tiles_end : (base low high : ℕ) (ds : List Holder) → Tiles base low high ds → low ≤ high
 tiles_end base low high [] t = omega (arith, t)
 tiles_end base low high (d ∷ ds) t = let e = tiles_end base (low + d.cells) high ds t.1 in omega arith
@@ -94,13 +99,16 @@ pub record Grows (base d d' : ℕ) (g g' : Scope) : Type 0 where
   pub locals : g'.locals ≡ g.locals ++ names
   pub tiles : Tiles base (base + d) (base + d') names
 
+-- with no more names
 pub grows_none : (base d : ℕ) (g : Scope) → Grows base d d g g
 grows_none base d g = record { names = []; locals = sym (append-nil g.locals); tiles = refl }
 
+-- with one name
 pub grows_local : (base d n : ℕ) (g : Scope) (id : ℕ) (ty : Ty) → d + cells_for g ty ≤ n → base + n < 2 ^ 63 →
     Grows base d (d + cells_for g ty) g (with_local g d id ty)
 grows_local base d n g id ty le small = record { names = _; locals = refl; tiles = (low_place base d (omega arith), omega arith) }
 
+-- with names, and then with more of them
 pub grows_both : (base d d1 d2 : ℕ) (g g1 g2 : Scope) → Grows base d d1 g g1 → Grows base d1 d2 g1 g2 → Grows base d d2 g g2
 grows_both base d d1 d2 g g1 g2 a b = record {
   names = a.names ++ b.names;

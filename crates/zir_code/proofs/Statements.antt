@@ -103,7 +103,8 @@ mutual
       for_agrees top base d n l g name.id a k (does_row l b) (row_code inner (d + 1) b) m s agree calls f.0 f.1 le
       (turn_agrees top base d (free_after_row inner (d + 1) b) n g (scope_after_row inner (d + 1) b) name.id (does_row l b)
       (go_all (row_code inner (d + 1) b) base) (omega arith)
-      (adds_row inner (d + 1) b) (grows_row base (d + 1) n inner b (omega arith) f.3) (λ m2 s2 h2. row_agrees top base n l agree b (d + 1) inner calls m2 s2 f.3 h2)) h
+      (adds_row inner (d + 1) b) (grows_row base (d + 1) n inner b (omega arith) f.3)
+      (λ m2 s2 h2. row_agrees top base n l agree b (d + 1) inner calls m2 s2 f.3 h2)) h
 
   -- the code of statements does what they mean
   row_agrees : {k : _} (top base n : ℕ) (l : Library) (agree : ExpressionsAgree) (row : Row_of-Stmt k) (d : ℕ) (g : Scope)
