@@ -71,16 +71,6 @@ pub record Kept (top base d : ℕ) (g : Scope) (m m' : Memory) (s s' : State) : 
   pub used : m'.used ≡ s'.ticks
   pub limit : m'.limit ≡ s'.ticks + s'.left
 
--- an index is in the cells of none of these variables
-abbrev pub Outside : ℕ → List Holder → ℕ → Type 0
-Outside base [] i = Unit {0}
-Outside base (d ∷ ds) i = ((i < place_of base d.spot) ⊎ (place_of base d.spot + d.cells ≤ i)) × Outside base ds i
-
--- the cells from top on and before base + d that belong to no variable of the body are the same
-abbrev pub Spares : (top base d : ℕ) → Scope → Memory → Memory → Type 0
-Spares top base d g m m' =
-    (i : ℕ) → top ≤ i → i < base + d → Outside base g.locals i → slice_index_or m'.cells i (pos 0) ≡ slice_index_or m.cells i (pos 0)
-
 -- a value of this type stands in the cells from a spot on
 pub record StandsAt (structs : List StructDef) (t : Ty) (v : Val) (m : Memory) (at : ℕ) : Type 0 where
   pub shape : Shaped structs t v
