@@ -1,3 +1,4 @@
 pub mod Reaching
 pub mod Playing
 pub mod Standing
+pub mod Straight
