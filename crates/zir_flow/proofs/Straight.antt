@@ -11,7 +11,7 @@ use Rattle.zir_tree.specs.declared.expr.Expr.{Expr}
 use Rattle.zir_tree.specs.declared.program.Core.{Core}
 use Rattle.zir_meaning.specs.Store.{Store}
 use Rattle.zir_meaning.specs.Trace.{State, point}
-use Rattle.zir_meaning.specs.Evaluation.{Eval, Got, Traps, RunsOut, ev}
+use Rattle.zir_meaning.specs.Evaluation.{Eval, Got, Traps, RunsOut, Library, ev}
 use Rattle.zir_meaning.specs.Instances.{around}
 use Rattle.zir_cells.specs.Cells.{cells_of}
 use Rattle.zir_laws.specs.Process.{Proc, Ends, NextProc, with_proc, tick_proc, tick_proc_of, spent_proc}
@@ -20,15 +20,29 @@ use Rattle.zir_laws.proofs.Expressions.{evaluates-ev}
 use Rattle.zir_laws.proofs.Functions.{evaluates-library}
 use Rattle.zir_shapes.specs.Shapes.{Shaped}
 use Rattle.zir_expr.specs.declared.frame.Spot.{Spot}
+use Rattle.zir_expr.specs.declared.frame.Spot.TheVariants.{Local}
 use Rattle.zir_expr.specs.declared.steps.Step.{Step}
 use Rattle.zir_expr.specs.Memory.{Ran, Done, Trapped, Out, then_run, after, from_base, place_of, tick_if, ticked}
 use Rattle.zir_expr.specs.Memory.Frames.{Memory}
 use Rattle.zir_expr.specs.Running.{go_all}
 use Rattle.zir_code.specs.declared.scope.Holder.{Holder}
 use Rattle.zir_code.specs.Scopes.{Scope}
+use Rattle.zir_code.specs.Types.{cells_for, size_in}
+use Rattle.zir_code.specs.Coding.{stands, code_of, settling}
+use Rattle.zir_code.specs.Peaks.{peak_of}
+use Rattle.zir_code.specs.Typing.{Has}
+use Rattle.zir_code.specs.Fine.{Fits}
+use Rattle.zir_code.specs.Calls.{Calls}
+use Rattle.zir_code.specs.Laws.{ExpressionsAgree}
 use Rattle.zir_code.specs.Holding.{At, Hold, InOrder, Holds, Spares, Kept, StandsAt, Ends as EndsAs, Agrees}
 use Rattle.zir_code.proofs.Kept.{low_place, kept_holds, holds_kept, holds_more, kept_changed, Changed}
 use Rattle.zir_code.proofs.Calls.{no_tick, a_tick}
+use Rattle.zir_code.proofs.Agreeing.{go_all-append, ends_more}
+use Rattle.zir_code.proofs.Moves.{settles}
+use Rattle.zir_code.proofs.Places.{placed}
+use Rattle.zir_code.proofs.Room.{value_room}
+use Rattle.zir_code.proofs.Simulation.{coded}
+use Rattle.zir_code.proofs.TypesFound.{types_are_found}
 use Rattle.zir_code.proofs.Stores.{hold_length}
 use Rattle.zir_flow.specs.declared.instruction.Instruction.{Instruction}
 use Rattle.zir_flow.specs.declared.instruction.Instruction.TheVariants.{Run, Tick}
@@ -41,7 +55,7 @@ use Rattle.zir_flow.specs.Program.{CodeAt}
 use Rattle.zir_flow.specs.Laws.{HoldsStore, ValueStands}
 use Rattle.zir_flow.proofs.Reaching.{Reaches, one_turn, stays, comes_next}
 use Rattle.zir_flow.proofs.Playing.{Arriving, Arrives, ArrivesEnd, arrives_on}
-use Rattle.zir_flow.proofs.Standing.{Ground, Covers, Stands, HoldsKept, Arrived}
+use Rattle.zir_flow.proofs.Standing.{Ground, Covers, Stands, HoldsKept, Arrived, Solid}
 
 -- CODE AT A PLACE
 
@@ -342,6 +356,64 @@ pub steps_arrive : (A : Arriving) (w : Watch) (a : Ground) (g : Scope) (d place 
 steps_arrive A w a g d place steps rest th room s m p c h e f =
     run_arrives A w a.code steps th room p (ap (slice_get a.code) h.place_is ∙ code_here a.code place (Run steps) rest c)
     (subst (RanArrives A w a.code th room p) (sym (ap (λ b. go_all steps b th.memory) h.base_is ∙ e)) f)
+
+-- EXPRESSIONS
+
+-- the law of expressions
+pub expressions_agree : ExpressionsAgree
+expressions_agree top base d n l g calls t e m s has room held = coded top base n l g calls t e d m s room has held
+
+-- an expression has as many cells as its type
+pub size_found : (g : Scope) (n : ℕ) (t : Ty) (e : Expr) → Has g n t e → size_in g e ≡ cells_for g t
+size_found g n t e h = ap (cells_for g) (types_are_found g n t e h)
+
+-- the code of an expression, whose value then goes to the first free cells
+pub settled_agrees : (top base d n : ℕ) (l : Library) (g : Scope) (t : Ty) (e : Expr) (m : Memory) (s : State) → Calls top l g.structs g.tops g.funs →
+    Fits g d n t e → Holds top base d n g m s →
+    Agrees top base d g t (Local d) m s (ev l e s) (go_all (code_of g e d ++ settling (stands g e d) d (cells_for g t)) base m)
+settled_agrees top base d n l g t e m s calls f h =
+    let has : Has g n t e = f.0 in
+    let peak : peak_of g e d ≤ n = f.1 in
+    let fit : d + cells_for g t ≤ peak_of g e d = value_room g n t e d has in
+    let room : base + n ≤ length m.cells = h.room in
+    let small : length m.cells < 2 ^ 63 = h.small in
+    let apart : top ≤ base = h.apart in
+    let q : from_base base d ≡ base + d = low_place base d (omega arith) in
+    let x : Spot = stands g e d in
+    let moved' : List Step = settling x d (cells_for g t) in
+    subst (λ q. Agrees top base d g t (Local d) m s (ev l e s) q) (sym (go_all-append (code_of g e d) moved' base m))
+    (ends_more (λ v s' m'. StandsAt g.structs t v m' (place_of base x) × Kept top base d g m m' s s') (λ s' m'. Kept top base d g m m' s s')
+    (λ v s' m'. StandsAt g.structs t v m' (place_of base (Local d)) × Kept top base d g m m' s s') (λ s' m'. Kept top base d g m m' s s')
+    (ev l e s) (go_all (code_of g e d) base m) (go_all moved' base) (λ s' m' k. k) (expressions_agree top base d n l g calls t e m s has peak h)
+    (λ v s1 m1 z.
+    let w = settles top base d n g t v x m m1 s s1 apart (omega arith) room small z.1 z.0
+    (placed top base d n d l g t e m s (omega arith) (omega arith) (omega arith) has h) in
+    subst (λ q. Agrees top base d g t (Local d) m s (Got v s1) q) (sym w.is)
+    (subst (StandsAt g.structs t v w.memory) (sym q) w.so.stands, w.so.kept)))
+
+-- an expression, and what follows
+pub expression_arrives : (A : Arriving) (w : Watch) (a : Ground) (g : Scope) (d place : ℕ) (t : Ty) (e : Expr) (rest : List Instruction) (th : Thread)
+    (room : Room) (s : State) (next : NextProc) → Solid a g → Fits g d a.n t e → CodeAt a.code place (Run (code_of g e d) ∷ rest) →
+    Stands a g d place th room s →
+    ((v : Val) (s' : State) (m : Memory) → StandsAt g.structs t v m (place_of a.base (stands g e d)) → Kept a.top a.base d g th.memory m s s' →
+    Stands a g d (place + 1) (next_with th m) room s' → Arrives A w a.code (next v s') (Alone (next_with th m) room)) →
+    Arrives A w a.code (with_proc (ev (around a.core).library e s) next) (Alone th room)
+expression_arrives A w a g d place t e rest th room s next solid f c h k =
+    straight_arrives (λ v s' m. StandsAt g.structs t v m (place_of a.base (stands g e d))) A w a g d place (code_of g e d) rest th room s
+    (ev (around a.core).library e s) next solid.small c h (ev_keeps a.core e s)
+    (expressions_agree a.top a.base d a.n (around a.core).library g solid.functions t e th.memory s f.0 f.1 h.held) k
+
+-- an expression whose value then goes to the first free cells, and what follows
+pub settled_arrives : (A : Arriving) (w : Watch) (a : Ground) (g : Scope) (d place : ℕ) (t : Ty) (e : Expr) (rest : List Instruction) (th : Thread)
+    (room : Room) (s : State) (next : NextProc) → Solid a g → Fits g d a.n t e →
+    CodeAt a.code place (Run (code_of g e d ++ settling (stands g e d) d (cells_for g t)) ∷ rest) → Stands a g d place th room s →
+    ((v : Val) (s' : State) (m : Memory) → StandsAt g.structs t v m (from_base a.base d) → Kept a.top a.base d g th.memory m s s' →
+    Stands a g d (place + 1) (next_with th m) room s' → Arrives A w a.code (next v s') (Alone (next_with th m) room)) →
+    Arrives A w a.code (with_proc (ev (around a.core).library e s) next) (Alone th room)
+settled_arrives A w a g d place t e rest th room s next solid f c h k =
+    straight_arrives (λ v s' m. StandsAt g.structs t v m (from_base a.base d)) A w a g d place
+    (code_of g e d ++ settling (stands g e d) d (cells_for g t)) rest th room s (ev (around a.core).library e s) next solid.small c h (ev_keeps a.core e s)
+    (settled_agrees a.top a.base d a.n (around a.core).library g t e th.memory s solid.functions f h.held) k
 
 -- TICKS
 
