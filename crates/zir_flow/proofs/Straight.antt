@@ -1,15 +1,12 @@
 -- Code at a place, straight code and ticks, and where a thread then stands.
-use Rattle.std.proofs.Common.{◌≡◌, ℕ, zero, suc, ◌+◌, ◌-◌, ◌%◌, ◌^◌, ◌<◌, ◌≤◌, ℤ, ◌⊎◌, List, [], ◌∷◌, ◌++◌, Bool, true, false, Option, Some, None, length, take, slice_get, nat_lt, nat_eq, ap, sym, subst, refl, ◌∙◌, arith, length-append, append_assoc, take_all, inl, inr}
-use Rattle.std.proofs.lemmas.Bool.Decides.{nat_tests}
+use Rattle.std.proofs.Common.{◌≡◌, ℕ, zero, suc, ◌+◌, ◌-◌, ◌%◌, ◌^◌, ◌<◌, ◌≤◌, ℤ, ◌⊎◌, List, [], ◌∷◌, ◌++◌, Bool, true, false, Option, Some, length, take, slice_get, nat_lt, ap, sym, subst, refl, ◌∙◌, arith, length-append, append_assoc, take_all, inl, inr}
 use Rattle.zir_tree.specs.declared.value.Val.{Val}
 use Rattle.zir_tree.specs.declared.value.Slot.{Slot}
 use Rattle.zir_tree.specs.declared.types.Ty.{Ty}
 use Rattle.zir_tree.specs.declared.types.StructDef.{StructDef}
-use Rattle.zir_tree.specs.declared.ends.Trap.{Trap}
-use Rattle.zir_tree.specs.declared.ends.End.TheVariants.{Value, Trap as TrapEnd, Spent}
+use Rattle.zir_tree.specs.declared.ends.End.TheVariants.{Value, Trap as TrapEnd}
 use Rattle.zir_tree.specs.declared.expr.Expr.{Expr}
 use Rattle.zir_tree.specs.declared.program.Core.{Core}
-use Rattle.zir_meaning.specs.Store.{Store}
 use Rattle.zir_meaning.specs.Trace.{State, point}
 use Rattle.zir_meaning.specs.Evaluation.{Eval, Got, Traps, RunsOut, Library, ev}
 use Rattle.zir_meaning.specs.Instances.{around}
@@ -46,15 +43,15 @@ use Rattle.zir_code.proofs.TypesFound.{types_are_found}
 use Rattle.zir_code.proofs.Stores.{hold_length}
 use Rattle.zir_flow.specs.declared.instruction.Instruction.{Instruction}
 use Rattle.zir_flow.specs.declared.instruction.Instruction.TheVariants.{Run, Tick}
-use Rattle.zir_flow.specs.Threads.{Thread, Move, Goes, after_steps, moved_by, move_if, onward, backward, next_with}
+use Rattle.zir_flow.specs.Threads.{Thread, Goes, after_steps, moved_by, move_if, next_with}
 use Rattle.zir_flow.specs.Stages.{Stage, Alone, Room, Closed, Open, Gone, turn, turned_by}
 use Rattle.zir_flow.specs.Kinds.{Shape, Flat, Split}
 use Rattle.zir_flow.specs.Fitting.{RoomFits, widest}
-use Rattle.zir_flow.specs.Playing.{Watch, PointIs, Comes, TrapsAt}
+use Rattle.zir_flow.specs.Playing.{Watch, PointIs}
 use Rattle.zir_flow.specs.Program.{CodeAt}
-use Rattle.zir_flow.specs.Laws.{HoldsStore, ValueStands}
+use Rattle.zir_flow.specs.Laws.{HoldsStore}
 use Rattle.zir_flow.proofs.Reaching.{Reaches, one_turn, stays, comes_next}
-use Rattle.zir_flow.proofs.Playing.{Arriving, Arrives, ArrivesEnd, arrives_on}
+use Rattle.zir_flow.proofs.Playing.{Arriving, Arrives, arrives_on}
 use Rattle.zir_flow.proofs.Standing.{Ground, Covers, Stands, HoldsKept, Arrived, Solid}
 
 -- CODE AT A PLACE
@@ -66,7 +63,9 @@ get_behind {A} (x ∷ xs) y ys = get_behind xs y ys
 -- the instruction at a place
 pub code_here : (code : List Instruction) (place : ℕ) (i : Instruction) (rest : List Instruction) → CodeAt code place (i ∷ rest) →
     slice_get code place ≡ Some i
-code_here code place i rest c = ap (λ xs. slice_get xs place) c.split ∙ ap (slice_get (c.before ++ (i ∷ (rest ++ c.after)))) (sym c.is) ∙ get_behind c.before i (rest ++ c.after)
+code_here code place i rest c =
+    let tail : List Instruction = rest ++ c.after in
+    ap (λ xs. slice_get xs place) c.split ∙ ap (slice_get (c.before ++ (i ∷ tail))) (sym c.is) ∙ get_behind c.before i tail
 
 -- the front of code
 pub code_front : (code : List Instruction) (place : ℕ) (xs ys : List Instruction) → CodeAt code place (xs ++ ys) → CodeAt code place xs
@@ -444,7 +443,8 @@ tick_cases m s u l = tick_by (nat_lt m.used m.limit) s.left m s refl refl u l
 -- a tick, and what follows from the thread behind it
 pub tick_on : (A : Arriving) (w : Watch) (code : List Instruction) (th : Thread) (room : Room) (s : State) (next : State → Proc) →
     slice_get code th.place ≡ Some Tick → th.memory.used ≡ s.ticks → th.memory.limit ≡ s.ticks + s.left →
-    ((l : ℕ) → s.left ≡ suc l → Arrives A w code (next (ticked_state s l)) (Alone (ticked_thread th) room)) → Arrives A w code (tick_proc s next) (Alone th room)
+    ((l : ℕ) → s.left ≡ suc l → Arrives A w code (next (ticked_state s l)) (Alone (ticked_thread th) room)) →
+    Arrives A w code (tick_proc s next) (Alone th room)
 tick_on A w code th room s next e u lim f = elim (tick_cases th.memory s u lim) [
   | inl z ↦ ran_arrives A w code th room (tick_proc s next) Out
       (turn_at code Tick th room e ∙ ap (λ q. turned_by (after_steps q (λ m. Goes (next_with th m)) th) room) z.1) (ap (λ k. tick_proc_of k s next) z.0)
