@@ -2,3 +2,4 @@ pub mod Reaching
 pub mod Playing
 pub mod Standing
 pub mod Straight
+pub mod Giving
