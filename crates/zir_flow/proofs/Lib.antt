@@ -3,3 +3,4 @@ pub mod Playing
 pub mod Standing
 pub mod Straight
 pub mod Giving
+pub mod Taking
