@@ -4,3 +4,4 @@ pub mod Standing
 pub mod Straight
 pub mod Giving
 pub mod Taking
+pub mod Offering

@@ -249,10 +249,10 @@ pub record Came (a : Ground) (g : Scope) (d place counter k : ℕ) (input : Ty) 
   pub values : CellsAre g.structs th.memory.cells (a.base + d) (replicate k input) vs
   pub spared : Spares a.top a.base d g m th.memory
 
-is_less : (k n count : ℕ) → k + suc n ≡ count → nat_lt k count ≡ true
+pub is_less : (k n count : ℕ) → k + suc n ≡ count → nat_lt k count ≡ true
 is_less k n count e = grind (arith, nat_tests)
 
-is_all : (k count : ℕ) → k ≡ count → nat_lt k count ≡ false
+pub is_all : (k count : ℕ) → k ≡ count → nat_lt k count ≡ false
 is_all k count e = grind (arith, nat_tests)
 
 -- how many of a series have come, by its counter
@@ -261,7 +261,7 @@ come_is s th base i k b e c =
     ap (λ b. count_in (cell_at (from_base b s.counter) th.memory)) b ∙ ap (λ i. count_in (cell_at i th.memory)) e ∙ ap count_in c
 
 -- the cells of some elements, of one more, and of the others
-in_parts : (k n size : ℕ) → (k + suc n) * size ≡ k * size + size + n * size
+pub in_parts : (k n size : ℕ) → (k + suc n) * size ≡ k * size + size + n * size
 in_parts k n size = omega arith
 
 -- the series of `takes`
