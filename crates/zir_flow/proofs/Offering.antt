@@ -29,6 +29,7 @@ use Rattle.zir_code.specs.Types.{type_in, element_type, first_length, cells_for}
 use Rattle.zir_code.specs.Coding.{stands, code_of}
 use Rattle.zir_code.specs.Fine.{Fits}
 use Rattle.zir_code.specs.Holding.{At, Holds, Spares, Kept, StandsAt, Ends as EndsAs}
+use Rattle.zir_code.specs.Calls.{Calls}
 use Rattle.zir_code.proofs.Agreeing.{go_all-append, ends_more}
 use Rattle.zir_code.proofs.Cells.{cell, at_front, at_back, at_same}
 use Rattle.zir_code.proofs.Kept.{low_place, Changed, changed_cell, cell_written, kept_changed}
@@ -185,3 +186,90 @@ gives_on (v ∷ vs) k a g input out d place counter at count x rest m th room s 
 record Ready (a : Ground) (g : Scope) (t : Ty) (x : Spot) (counter : ℕ) (v : Val) (m : Memory) : Type 0 where
   pub stands : StandsAt g.structs t v m (place_of a.base x)
   pub count : cell m.cells (a.base + counter) ≡ pos 0
+
+-- the code of an array and of a counter that begins at 0
+ready_agrees : (top base d n : ℕ) (a : Ground) (g : Scope) (t : Ty) (e : Expr) (m : Memory) (s : State) → base ≡ a.base → top ≡ a.top → Solid a g →
+    Fits g d n t e → d + cells_for g t + 1 ≤ n → Holds top base d n g m s →
+    EndsAs (λ v s' m'. Ready a g t (stands g e d) (d + cells_for g t) v m' × Kept top base d g m m' s s') (λ s' m'. Kept top base d g m m' s s')
+    (ev (around a.core).library e s) (go_all (code_of g e d ++ Number (Local (d + cells_for g t)) (pos 0) ∷ []) base m)
+ready_agrees top base d n a g t e m s same_base same_top solid f fit h =
+    let x : Spot = stands g e d in
+    let size : ℕ = cells_for g t in
+    let counter : ℕ = d + size in
+    let set : List Step = Number (Local counter) (pos 0) ∷ [] in
+    let r : Eval = ev (around a.core).library e s in
+    let room : base + n ≤ length m.cells = h.room in
+    let small : length m.cells < 2 ^ 63 = h.small in
+    let apart : top ≤ base = h.apart in
+    let i : from_base base counter ≡ base + counter = low_place base counter (omega arith) in
+    let placed' : Placed top base d d size x =
+    placed top base d n d (around a.core).library g t e m s (omega arith) (omega arith) (omega arith) f.0 h in
+    let calls = subst (λ top. Calls top (around a.core).library g.structs g.tops g.funs) (sym same_top) solid.functions in
+    subst (EndsAs (λ v s' m'. Ready a g t x counter v m' × Kept top base d g m m' s s') (λ s' m'. Kept top base d g m m' s s') r)
+    (sym (go_all-append (code_of g e d) set base m))
+    (ends_more (λ v s' m'. StandsAt g.structs t v m' (place_of base x) × Kept top base d g m m' s s') (λ s' m'. Kept top base d g m m' s s')
+    (λ v s' m'. Ready a g t x counter v m' × Kept top base d g m m' s s') (λ s' m'. Kept top base d g m m' s s') r (go_all (code_of g e d) base m)
+    (go_all set base) (λ s' m' k. k) (expressions_agree top base d n (around a.core).library g calls t e m s f.0 f.1 h)
+    (λ v s1 m1 z.
+    let m2 : Memory = put_cell (base + counter) (pos 0) m1 in
+    let put : Changed (base + counter) (base + counter + 1) m1 m2 = changed_cell (base + counter) (pos 0) m1 in
+    let long : length m1.cells ≡ length m.cells = z.1.size in
+    let size_v : length (cells_of v) ≡ size = sizes-fit g.structs t v z.0.shape in
+    let before : place_of base x + length (cells_of v) ≤ base + counter = elim placed'.before [ inl l ↦ omega arith | inr l ↦ omega arith ] in
+    let at : At m2.cells (place_of base x) (cells_of v) =
+    at_same m1.cells m2.cells (place_of base x) (base + counter) (place_of base x) (cells_of v) put.size (λ j b e. put.others j (inl e)) (omega arith)
+    before z.0.cells in
+    subst (λ i. EndsAs (λ v s' m'. Ready a g t x counter v m' × Kept top base d g m m' s s') (λ s' m'. Kept top base d g m m' s s') (Got v s1)
+    (Done (put_cell i (pos 0) m1))) (sym i) (
+      record {
+        stands = record { shape = z.0.shape; cells = subst (λ b. At m2.cells (place_of b x) (cells_of v)) same_base at };
+        count = subst (λ b. cell m2.cells (b + counter) ≡ pos 0) same_base (cell_written (base + counter) (pos 0) m1 (omega arith));
+      },
+      kept_changed top base d (base + counter) (base + counter + 1) g m m1 m2 s s1 apart (omega arith) z.1 put,
+    )))
+
+-- `emits`
+pub emits_arrives : (a : Ground) (e : Expr) (p : Place) → ComponentArrives a (Emits e p)
+emits_arrives a e p g input out d place th room s solid f c deep covers h =
+    let count : ℕ = f.0 in
+    let t : Ty = array_of count out in
+    let fits : Fits g d a.n t e = f.1 in
+    let type : type_in g e ≡ t = types_are_found g a.n t e fits.0 in
+    let x : Spot = stands g e d in
+    let counter : ℕ = d + cells_for g t in
+    let all : Series = record { counter = counter; from = x; size = cells_for g out; count = count } in
+    let steps : List Step = code_of g e d ++ Number (Local counter) (pos 0) ∷ [] in
+    let w : Watch = watched a g d input out th.memory in
+    let wide : a.base + a.n ≤ length th.memory.cells = h.held.room in
+    let small : length th.memory.cells < 2 ^ 63 = h.held.small in
+    let fit : counter + 1 ≤ a.n = f.2 in
+    let two : place + 1 + 1 ≡ place + 2 = omega arith in
+    let c' : CodeAt a.code place (Run steps ∷ GivesAll all ∷ []) =
+    subst (λ ty. CodeAt a.code place (Run (code_of g e d ++ Number (Local (d + cells_for g ty)) (pos 0) ∷ [])
+    ∷ GivesAll (record { counter = d + cells_for g ty; from = x; size = cells_for g (element_type ty); count = first_length ty.lengths }) ∷ [])) type c in
+    let whole : cells_for g t ≡ count * cells_for g out = array_size g.structs count out in
+    let placed' : Placed a.top a.base d d (cells_for g t) x =
+    placed a.top a.base d a.n d (around a.core).library g t e th.memory s (omega arith) (omega arith) (omega arith) fits.0 h.held in
+    let end : place_of a.base x + count * cells_for g out ≤ a.base + counter = elim placed'.before [ inl l ↦ omega arith | inr l ↦ omega arith ] in
+    straight_arrives (λ v s' m. Ready a g t x counter v m) (Arrived a g d (Some (plain UnitTy)) (place + 2) th.memory) w a g d place steps
+    (GivesAll all ∷ []) th room s (ev (around a.core).library e s) (λ v s'. outputs_proc (parts v) s') solid.small c' h (ev_keeps a.core e s)
+    (ready_agrees a.top a.base d a.n a g t e th.memory s refl refl solid fits fit h.held)
+    (λ v s1 m1 r k h1.
+    let vs : List Val = r.stands.shape.0 in
+    let is : v ≡ Vals vs = r.stands.shape.1 in
+    let zero_at : place_of a.base x ≡ place_of a.base x + 0 * cells_for g out = omega arith in
+    let cells : At m1.cells (place_of a.base x + 0 * cells_for g out) (list_cells vs) =
+    subst (λ i. At m1.cells i (list_cells vs)) zero_at
+    (subst (At m1.cells (place_of a.base x)) (ap cells_of is ∙ cells-list vs) r.stands.cells) in
+    subst (λ vs. Arrives (Arrived a g d (Some (plain UnitTy)) (place + 2) th.memory) w a.code (outputs_proc vs s1) (Alone (next_with th m1) room))
+    (sym (ap parts is ∙ parts-list vs))
+    (subst (λ q. Arrives (Arrived a g d (Some (plain UnitTy)) q th.memory) w a.code (outputs_proc vs s1) (Alone (next_with th m1) room)) two
+    (gives_on vs 0 a g input out d (place + 1) counter (place_of a.base x) count x [] th.memory (next_with th m1) room s1
+    (let e : 0 + length vs ≡ length vs = omega arith in e ∙ r.stands.shape.2) solid.small
+    (code_next a.code place (Run steps) (GivesAll all ∷ []) c') (omega arith) fit refl end (record {
+      stands = h1;
+      count = r.count;
+      each = r.stands.shape.3;
+      cells = cells;
+      spared = spares_kept a.top a.base d g th.memory m1 s s1 k;
+    }))))
