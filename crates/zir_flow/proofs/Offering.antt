@@ -29,7 +29,6 @@ use Rattle.zir_code.specs.Types.{type_in, element_type, first_length, cells_for}
 use Rattle.zir_code.specs.Coding.{stands, code_of}
 use Rattle.zir_code.specs.Fine.{Fits}
 use Rattle.zir_code.specs.Holding.{At, Holds, Spares, Kept, StandsAt, Ends as EndsAs}
-use Rattle.zir_code.specs.Calls.{Calls}
 use Rattle.zir_code.proofs.Agreeing.{go_all-append, ends_more}
 use Rattle.zir_code.proofs.Cells.{cell, at_front, at_back, at_same}
 use Rattle.zir_code.proofs.Kept.{low_place, Changed, changed_cell, cell_written, kept_changed}
@@ -188,44 +187,43 @@ record Ready (a : Ground) (g : Scope) (t : Ty) (x : Spot) (counter : ℕ) (v : V
   pub count : cell m.cells (a.base + counter) ≡ pos 0
 
 -- the code of an array and of a counter that begins at 0
-ready_agrees : (top base d n : ℕ) (a : Ground) (g : Scope) (t : Ty) (e : Expr) (m : Memory) (s : State) → base ≡ a.base → top ≡ a.top → Solid a g →
-    Fits g d n t e → d + cells_for g t + 1 ≤ n → Holds top base d n g m s →
-    EndsAs (λ v s' m'. Ready a g t (stands g e d) (d + cells_for g t) v m' × Kept top base d g m m' s s') (λ s' m'. Kept top base d g m m' s s')
-    (ev (around a.core).library e s) (go_all (code_of g e d ++ Number (Local (d + cells_for g t)) (pos 0) ∷ []) base m)
-ready_agrees top base d n a g t e m s same_base same_top solid f fit h =
+ready_agrees : (a : Ground) (g : Scope) (d n : ℕ) (t : Ty) (e : Expr) (m : Memory) (s : State) → Solid a g →
+    Fits g d n t e → d + cells_for g t + 1 ≤ n → Holds a.top a.base d n g m s →
+    EndsAs (λ v s' m'. Ready a g t (stands g e d) (d + cells_for g t) v m' × Kept a.top a.base d g m m' s s') (λ s' m'. Kept a.top a.base d g m m' s s')
+    (ev (around a.core).library e s) (go_all (code_of g e d ++ Number (Local (d + cells_for g t)) (pos 0) ∷ []) a.base m)
+ready_agrees a g d n t e m s solid f fit h =
     let x : Spot = stands g e d in
     let size : ℕ = cells_for g t in
     let counter : ℕ = d + size in
     let set : List Step = Number (Local counter) (pos 0) ∷ [] in
     let r : Eval = ev (around a.core).library e s in
-    let room : base + n ≤ length m.cells = h.room in
+    let room : a.base + n ≤ length m.cells = h.room in
     let small : length m.cells < 2 ^ 63 = h.small in
-    let apart : top ≤ base = h.apart in
-    let i : from_base base counter ≡ base + counter = low_place base counter (omega arith) in
-    let placed' : Placed top base d d size x =
-    placed top base d n d (around a.core).library g t e m s (omega arith) (omega arith) (omega arith) f.0 h in
-    let calls = subst (λ top. Calls top (around a.core).library g.structs g.tops g.funs) (sym same_top) solid.functions in
-    subst (EndsAs (λ v s' m'. Ready a g t x counter v m' × Kept top base d g m m' s s') (λ s' m'. Kept top base d g m m' s s') r)
-    (sym (go_all-append (code_of g e d) set base m))
-    (ends_more (λ v s' m'. StandsAt g.structs t v m' (place_of base x) × Kept top base d g m m' s s') (λ s' m'. Kept top base d g m m' s s')
-    (λ v s' m'. Ready a g t x counter v m' × Kept top base d g m m' s s') (λ s' m'. Kept top base d g m m' s s') r (go_all (code_of g e d) base m)
-    (go_all set base) (λ s' m' k. k) (expressions_agree top base d n (around a.core).library g calls t e m s f.0 f.1 h)
+    let apart : a.top ≤ a.base = h.apart in
+    let i : from_base a.base counter ≡ a.base + counter = low_place a.base counter (omega arith) in
+    let placed' : Placed a.top a.base d d size x =
+    placed a.top a.base d n d (around a.core).library g t e m s (omega arith) (omega arith) (omega arith) f.0 h in
+    subst (EndsAs (λ v s' m'. Ready a g t x counter v m' × Kept a.top a.base d g m m' s s') (λ s' m'. Kept a.top a.base d g m m' s s') r)
+    (sym (go_all-append (code_of g e d) set a.base m))
+    (ends_more (λ v s' m'. StandsAt g.structs t v m' (place_of a.base x) × Kept a.top a.base d g m m' s s') (λ s' m'. Kept a.top a.base d g m m' s s')
+    (λ v s' m'. Ready a g t x counter v m' × Kept a.top a.base d g m m' s s') (λ s' m'. Kept a.top a.base d g m m' s s') r (go_all (code_of g e d) a.base m)
+    (go_all set a.base) (λ s' m' k. k) (expressions_agree a.top a.base d n (around a.core).library g solid.functions t e m s f.0 f.1 h)
     (λ v s1 m1 z.
-    let m2 : Memory = put_cell (base + counter) (pos 0) m1 in
-    let put : Changed (base + counter) (base + counter + 1) m1 m2 = changed_cell (base + counter) (pos 0) m1 in
+    let m2 : Memory = put_cell (a.base + counter) (pos 0) m1 in
+    let put : Changed (a.base + counter) (a.base + counter + 1) m1 m2 = changed_cell (a.base + counter) (pos 0) m1 in
     let long : length m1.cells ≡ length m.cells = z.1.size in
     let size_v : length (cells_of v) ≡ size = sizes-fit g.structs t v z.0.shape in
-    let before : place_of base x + length (cells_of v) ≤ base + counter = elim placed'.before [ inl l ↦ omega arith | inr l ↦ omega arith ] in
-    let at : At m2.cells (place_of base x) (cells_of v) =
-    at_same m1.cells m2.cells (place_of base x) (base + counter) (place_of base x) (cells_of v) put.size (λ j b e. put.others j (inl e)) (omega arith)
+    let before : place_of a.base x + length (cells_of v) ≤ a.base + counter = elim placed'.before [ inl l ↦ omega arith | inr l ↦ omega arith ] in
+    let at : At m2.cells (place_of a.base x) (cells_of v) =
+    at_same m1.cells m2.cells (place_of a.base x) (a.base + counter) (place_of a.base x) (cells_of v) put.size (λ j b e. put.others j (inl e)) (omega arith)
     before z.0.cells in
-    subst (λ i. EndsAs (λ v s' m'. Ready a g t x counter v m' × Kept top base d g m m' s s') (λ s' m'. Kept top base d g m m' s s') (Got v s1)
+    subst (λ i. EndsAs (λ v s' m'. Ready a g t x counter v m' × Kept a.top a.base d g m m' s s') (λ s' m'. Kept a.top a.base d g m m' s s') (Got v s1)
     (Done (put_cell i (pos 0) m1))) (sym i) (
       record {
-        stands = record { shape = z.0.shape; cells = subst (λ b. At m2.cells (place_of b x) (cells_of v)) same_base at };
-        count = subst (λ b. cell m2.cells (b + counter) ≡ pos 0) same_base (cell_written (base + counter) (pos 0) m1 (omega arith));
+        stands = record { shape = z.0.shape; cells = at };
+        count = cell_written (a.base + counter) (pos 0) m1 (omega arith);
       },
-      kept_changed top base d (base + counter) (base + counter + 1) g m m1 m2 s s1 apart (omega arith) z.1 put,
+      kept_changed a.top a.base d (a.base + counter) (a.base + counter + 1) g m m1 m2 s s1 apart (omega arith) z.1 put,
     )))
 
 -- `emits`
@@ -253,7 +251,7 @@ emits_arrives a e p g input out d place th room s solid f c deep covers h =
     let end : place_of a.base x + count * cells_for g out ≤ a.base + counter = elim placed'.before [ inl l ↦ omega arith | inr l ↦ omega arith ] in
     straight_arrives (λ v s' m. Ready a g t x counter v m) (Arrived a g d (Some (plain UnitTy)) (place + 2) th.memory) w a g d place steps
     (GivesAll all ∷ []) th room s (ev (around a.core).library e s) (λ v s'. outputs_proc (parts v) s') solid.small c' h (ev_keeps a.core e s)
-    (ready_agrees a.top a.base d a.n a g t e th.memory s refl refl solid fits fit h.held)
+    (ready_agrees a g d a.n t e th.memory s solid fits fit h.held)
     (λ v s1 m1 r k h1.
     let vs : List Val = r.stands.shape.0 in
     let is : v ≡ Vals vs = r.stands.shape.1 in
