@@ -5,3 +5,4 @@ pub mod Straight
 pub mod Giving
 pub mod Taking
 pub mod Offering
+pub mod Mapping
