@@ -8,3 +8,7 @@ pub mod Calling
 pub mod Settling
 pub mod Members
 pub mod Instances
+pub mod Giving
+pub mod Taking
+pub mod Offering
+pub mod Mapping
