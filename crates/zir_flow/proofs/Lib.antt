@@ -1,3 +1,6 @@
 pub mod Reaching
 pub mod Playing
 pub mod Standing
+pub mod Straight
+pub mod Rounds
+pub mod Repeating

@@ -10,6 +10,7 @@ use Rattle.zir_meaning.specs.Store.{Store}
 use Rattle.zir_meaning.specs.Trace.{State}
 use Rattle.zir_meaning.specs.Instances.{around}
 use Rattle.zir_laws.specs.Process.{Procs, proc}
+use Rattle.zir_laws.proofs.Components.{ProcsProceed}
 use Rattle.zir_cells.specs.Layout.{layout_of}
 use Rattle.zir_shapes.specs.Shapes.{Shaped}
 use Rattle.zir_expr.specs.Memory.{from_base}
@@ -153,11 +154,12 @@ EntryPlays a structs tops k e =
 abbrev pub moved_to : Ground → ℕ → ℕ → Shape → List Caller → Ground
 moved_to a base n shape calls = record a { base = base; n = n; shape = shape; calls = calls }
 
--- what is known of the ground: the code of functions does what they mean, that of instances what they do
+-- what is known of the ground: the code of functions does what they mean, that of instances what they do, within the ticks left
 pub record Solid (a : Ground) (g : Scope) : Type 0 where
   pub functions : Calls a.top (around a.core).library g.structs g.tops g.funs
   pub assigned : a.st.assigned ≡ (around a.core).assigned
   pub small : length a.code < 2 ^ 32
+  pub proceeds : ProcsProceed a.procs
   pub entries : (k : ℕ) (e : Entry) → a.st.entries k ≡ Some e → (base n : ℕ) (shape : Shape) (calls : List Caller) →
       EntryPlays (moved_to a base n shape calls) g.structs g.tops k e
 
