@@ -44,8 +44,8 @@ use Rattle.zir_flow.proofs.Straight.{code_here, code_front, code_back, code_next
 use Rattle.zir_flow.proofs.Rounds.{component_shrinks, rounds_arrive, Since, tick_since, body_since, back_since, unit_since}
 
 -- a loop without a test
-pub repeat_arrives : (a : Ground) (one : _) (c : Comp) (p : Place) → ComponentArrives a c → ComponentArrives a (Repeat' one (more_of-Comp c end_of-Comp) p)
-repeat_arrives a one c p arrives g input out d place th room s solid flows at deep covers h =
+pub repeat_arrives : (a : Ground) (c : Comp) (p : Place) → ComponentArrives a c → ComponentArrives a (Repeat' _ (more_of-Comp c end_of-Comp) p)
+repeat_arrives a c p arrives g input out d place th room s solid flows at deep covers h =
     let body : List Instruction = flow_code a.st g input d c in
     let m : Memory = th.memory in
     let last : List Instruction = Again (length body + 1) ∷ [] in
@@ -53,7 +53,7 @@ repeat_arrives a one c p arrives g input out d place th room s solid flows at de
     let inside = code_front a.code (place + 1) body last behind in
     let back = code_back a.code (place + 1) body last behind in
     let to : place + (length body + 1) ≡ place + 1 + length body = omega arith in
-    rounds_arrive s.left (Arrived a g d (value_in a.st g input d (Repeat' one (more_of-Comp c end_of-Comp) p)) (place + length (Tick ∷ (body ++ last))) m)
+    rounds_arrive s.left (Arrived a g d (value_in a.st g input d (Repeat' _ (more_of-Comp c end_of-Comp) p)) (place + length (Tick ∷ (body ++ last))) m)
     (λ v s' st'. Since a g d (place + 1 + length body) m s' st') (watched a g d input out m) a.code (Since a g d place m) (Since a g d place m)
     (Since a g d (place + 1) m) always (proc (around a.core) a.procs c) s _
     (record {
@@ -174,9 +174,9 @@ choosing false a g d place k x on m rest w s th room turn lt c e h p f =
     (z.0, z.1, unit_since a g d (place + 1 + k) m s z.0 z.2)
 
 -- a loop with a test
-pub while_arrives : (a : Ground) (turning : Turning) (e : Expr) (one : _) (c : Comp) (p : Place) → ComponentArrives a c →
-    ComponentArrives a (While' turning e one (more_of-Comp c end_of-Comp) p)
-while_arrives a turning e one c p arrives g input out d place th room s solid flows at deep covers h =
+pub while_arrives : (a : Ground) (turning : Turning) (e : Expr) (c : Comp) (p : Place) → ComponentArrives a c →
+    ComponentArrives a (While' turning e _ (more_of-Comp c end_of-Comp) p)
+while_arrives a turning e c p arrives g input out d place th room s solid flows at deep covers h =
     let body : List Instruction = flow_code a.st g input d c in
     let m : Memory = th.memory in
     let x : Spot = stands g e d in
@@ -198,7 +198,7 @@ while_arrives a turning e one c p arrives g input out d place th room s solid fl
     let end : place + 1 + 1 + (n + 2) ≡ place + length whole = omega arith in
     let A : Arriving = Arrived a g d (Some (plain UnitTy)) (place + 1 + 1 + (n + 2)) m in
     subst (λ q. Arrives (Arrived a g d (Some (plain UnitTy)) q m) w a.code
-    (proc (around a.core) a.procs (While' turning e one (more_of-Comp c end_of-Comp) p) s) (Alone th room)) end
+    (proc (around a.core) a.procs (While' turning e _ (more_of-Comp c end_of-Comp) p) s) (Alone th room)) end
     (rounds_arrive s.left A (λ v s' st'. Since a g d (place + 1 + 1 + 1 + n) m s' st') w a.code (Since a g d place m) (Since a g d (place + 1 + 1) m)
     (Since a g d (place + 1 + 1 + 1) m) (test_of turning (ev (around a.core).library e)) (proc (around a.core) a.procs c) s (Alone th room)
     (record {

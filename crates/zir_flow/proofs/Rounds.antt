@@ -158,20 +158,25 @@ body_since a g input out d place m c s st arrives solid flows at deep covers h =
     (λ x f. f) (λ x f. f) (arrives g input out d place th h.room s solid flows at deep covers h.stands))
 
 -- so many instructions back
+pub back_to : (a : Ground) (g : Scope) (d place to k : ℕ) (rest : List Instruction) (s : State) (th : Thread) (room : Room) → length a.code < 2 ^ 32 →
+    CodeAt a.code place (Again k ∷ rest) → to + k ≡ place → Stands a g d place th room s →
+    Reaches a.code (Alone th room) (Alone (backward k th) room) × Stands a g d to (backward k th) room s
+back_to a g d place to k rest s th room lt c e h =
+    let ends : place + suc (length rest) ≤ length a.code = code_ends a.code place (Again k ∷ rest) c in
+    let p : (th.place + (2 ^ 64 - k)) % 2 ^ 64 ≡ to =
+    ap (λ p. (p + (2 ^ 64 - k)) % 2 ^ 64) h.place_is ∙ backward_place place k to e (omega arith) in
+    (goes_to a.code (Again k) th (backward k th) room (ap (slice_get a.code) h.place_is ∙ code_here a.code place (Again k) rest c) refl,
+    stands_moved a g d place to ((th.place + (2 ^ 64 - k)) % 2 ^ 64) th room s h p)
+
 pub back_since : (a : Ground) (g : Scope) (d place to k : ℕ) (m : Memory) (rest : List Instruction) (s : State) (st : Stage) → length a.code < 2 ^ 32 →
     CodeAt a.code place (Again k ∷ rest) → to + k ≡ place → Since a g d place m s st → (st' : Stage) × Reaches a.code st st' × Since a g d to m s st'
 back_since a g d place to k m rest s st lt c e h =
-    let th : Thread = h.th in
-    let ends : place + suc (length rest) ≤ length a.code = code_ends a.code place (Again k ∷ rest) c in
-    let p : (th.place + (2 ^ 64 - k)) % 2 ^ 64 ≡ to =
-    ap (λ p. (p + (2 ^ 64 - k)) % 2 ^ 64) h.stands.place_is ∙ backward_place place k to e (omega arith) in
-    let to' : Stage = Alone (backward k th) h.room in
-    (to', subst (λ x. Reaches a.code x to') (sym h.alone)
-    (goes_to a.code (Again k) th (backward k th) h.room (ap (slice_get a.code) h.stands.place_is ∙ code_here a.code place (Again k) rest c) refl), record {
-      th = backward k th;
+    let z = back_to a g d place to k rest s h.th h.room lt c e h.stands in
+    (Alone (backward k h.th) h.room, subst (λ x. Reaches a.code x (Alone (backward k h.th) h.room)) (sym h.alone) z.0, record {
+      th = backward k h.th;
       room = h.room;
       alone = refl;
-      stands = stands_moved a g d place to ((th.place + (2 ^ 64 - k)) % 2 ^ 64) th h.room s h.stands p;
+      stands = z.1;
       spared = h.spared;
     })
 
