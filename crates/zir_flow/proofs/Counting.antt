@@ -36,7 +36,7 @@ use Rattle.zir_flow.proofs.Rounds.{counts_arrive, Since, back_to, unit_since}
 use Rattle.zir_flow.proofs.Within.{outside_order, within_more, stands_left, inner_arrives}
 
 -- where a thread stands since a memory, and what holds of its own memory
-record Counting (a : Ground) (g : Scope) (d place : ℕ) (m : Memory) (P : Memory → Type 0) (s : State) (st : Stage) : Type 0 where
+pub record Counting (a : Ground) (g : Scope) (d place : ℕ) (m : Memory) (P : Memory → Type 0) (s : State) (st : Stage) : Type 0 where
   pub th : Thread
   pub room : Room
   pub alone : st ≡ Alone th room
@@ -45,7 +45,7 @@ record Counting (a : Ground) (g : Scope) (d place : ℕ) (m : Memory) (P : Memor
   pub so : P th.memory
 
 -- so many turns are left in a cell
-abbrev Left : ℕ → ℕ → ℕ → Memory → Type 0
+abbrev pub Left : ℕ → ℕ → ℕ → Memory → Type 0
 Left base c k m = turns_of (cell_at (from_base base c) m) ≡ k
 
 -- a number in its cell
@@ -53,13 +53,13 @@ pub number_from : (g : Scope) (m : Memory) (i : ℕ) (v : Val) → StandsAt g.st
 number_from g m i v st = cell_from g.structs m.cells i Int32 v (inr (inr tt)) st.shape st.cells
 
 -- a free cell is written
-free_written : (base c n : ℕ) (m : Memory) (x : ℤ) → base + n ≤ length m.cells → length m.cells < 2 ^ 63 → c < n →
+pub free_written : (base c n : ℕ) (m : Memory) (x : ℤ) → base + n ≤ length m.cells → length m.cells < 2 ^ 63 → c < n →
     Changed (base + c) (base + c + 1) m (put_cell (from_base base c) x m)
 free_written base c n m x room small lt =
     subst (λ i. Changed i (i + 1) m (put_cell (from_base base c) x m)) (low_place base c (omega arith)) (changed_cell (from_base base c) x m)
 
 -- and is what was written
-free_is : (base c n : ℕ) (m : Memory) (x : ℤ) → base + n ≤ length m.cells → length m.cells < 2 ^ 63 → c < n →
+pub free_is : (base c n : ℕ) (m : Memory) (x : ℤ) → base + n ≤ length m.cells → length m.cells < 2 ^ 63 → c < n →
     cell_at (from_base base c) (put_cell (from_base base c) x m) ≡ x
 free_is base c n m x room small lt =
     let q : from_base base c ≡ base + c = low_place base c (omega arith) in cell_written (from_base base c) x m (omega arith)
@@ -77,7 +77,7 @@ turn_more (pos (suc j)) n i k th e = let same : j ≡ n = cc in ap (λ j. Goes (
 turn_more (negsuc j) n i k th e = cc
 
 -- behind the last turn
-over_since : (a : Ground) (g : Scope) (d place c k : ℕ) (m : Memory) (rest : List Instruction) (s : State) (th : Thread) (room : Room) →
+pub over_since : (a : Ground) (g : Scope) (d place c k : ℕ) (m : Memory) (rest : List Instruction) (s : State) (th : Thread) (room : Room) →
     place + 1 + k < 2 ^ 64 → CodeAt a.code place (Turn c k ∷ rest) → Left a.base c 0 th.memory → Stands a g d place th room s →
     Spares a.top a.base d g m th.memory → (st' : Stage) × Reaches a.code (Alone th room) st' × Since a g d (place + 1 + k) m s st'
 over_since a g d place c k m rest s th room lt at e h p =
@@ -95,7 +95,7 @@ over_since a g d place c k m rest s th room lt at e h p =
     })
 
 -- a turn and its tick, and what follows
-turn_ticks : (A : Arriving) (w : Watch) (a : Ground) (g : Scope) (d place c k n : ℕ) (m : Memory) (rest : List Instruction) (s : State) (th : Thread)
+pub turn_ticks : (A : Arriving) (w : Watch) (a : Ground) (g : Scope) (d place c k n : ℕ) (m : Memory) (rest : List Instruction) (s : State) (th : Thread)
     (room : Room) (next : State → Proc) → d ≤ c → c < a.n → length a.code < 2 ^ 32 → CodeAt a.code place (Turn c k ∷ Tick ∷ rest) →
     Left a.base c (suc n) th.memory → Stands a g d place th room s → Spares a.top a.base d g m th.memory →
     ((l : ℕ) (th' : Thread) → th'.memory.cells ≡ (put_cell (from_base a.base c) (pos n) th.memory).cells →
@@ -122,9 +122,9 @@ turn_ticks A w a g d place c k n m rest s th room next low lt small at e h p f =
     (λ l e' h3. f l (ticked_thread th') refl h3 p2))
 
 -- a cell behind the variables is as it was
-spared_cell : (a : Ground) (g : Scope) (d d' c : ℕ) (m m' : Memory) → a.top ≤ a.base → a.base + c < 2 ^ 64 → c < d' →
+pub spared_cell : (a : Ground) (g : Scope) (d' c : ℕ) (m m' : Memory) → a.top ≤ a.base → a.base + c < 2 ^ 64 → c < d' →
     ((i : ℕ) → i ≡ a.base + c → Outside a.base g.locals i) → Spares a.top a.base d' g m m' → cell_at (from_base a.base c) m' ≡ cell_at (from_base a.base c) m
-spared_cell a g d d' c m m' apart fit lt out p =
+spared_cell a g d' c m m' apart fit lt out p =
     let q : from_base a.base c ≡ a.base + c = low_place a.base c fit in
     p (from_base a.base c) (omega arith) (omega arith) (out (from_base a.base c) q)
 
@@ -192,7 +192,7 @@ times_arrives a e c p arrives g input out d place th room s solid flows at deep 
             alone = y.alone;
             stands = stands_left a g g d (d + 1) behind y.th y.room s2 within h.held.tops_in h.held.locals_in y.stands;
             spared = spares_then a.top a.base d g m z.th.memory y.th.memory z.spared (within.spares z.th.memory y.th.memory y.spared);
-            so = ap turns_of (spared_cell a g d (d + 1) d z.th.memory y.th.memory h.held.apart (omega arith) (omega arith)
+            so = ap turns_of (spared_cell a g (d + 1) d z.th.memory y.th.memory h.held.apart (omega arith) (omega arith)
                 (λ j q. outside_order a.base a.base (a.base + d) g.locals j h.held.locals_in (omega arith)) y.spared) ∙ z.so;
           }));
       again = λ k i v' s' st' z.

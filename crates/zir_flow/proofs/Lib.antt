@@ -6,3 +6,4 @@ pub mod Rounds
 pub mod Within
 pub mod Repeating
 pub mod Counting
+pub mod Indexing

@@ -69,6 +69,13 @@ within_local a g d d' e id ty le low fit =
       };
     }
 
+-- a free cell before those of a name is outside
+pub outside_local : (base d e id o i : ℕ) (g : Scope) (ty : Ty) → InOrder base base (base + d) g.locals → d ≤ o → o < e → base + e < 2 ^ 64 →
+    i ≡ base + o → Outside base (with_local g e id ty).locals i
+outside_local base d e id o i g ty h low lt fit is =
+    let q : from_base base e ≡ base + e = low_place base e fit in
+    outside_more base g.locals _ i (inl (omega arith)) (outside_order base base (base + d) g.locals i h (omega arith))
+
 -- the names that the larger scope has beside those of the smaller one leave it
 pub stands_left : (a : Ground) (g g' : Scope) (d d' place : ℕ) (th : Thread) (room : Room) (s : State) → Within a g g' d d' →
     InOrder a.base 0 a.top g.tops → InOrder a.base a.base (a.base + d) g.locals → Stands a g' d' place th room s →
