@@ -1,19 +1,17 @@
 -- Loops of so many turns.
-use Rattle.std.proofs.Common.{◌≡◌, ℕ, zero, suc, ◌+◌, ◌-◌, ◌%◌, ◌<◌, ◌≤◌, ◌^◌, ℤ, pos, negsuc, List, [], ◌∷◌, ◌++◌, Some, None, length, slice_get, slice_index_or, ap, sym, subst, refl, ◌∙◌, arith, inl, inr, length-append}
+use Rattle.std.proofs.Common.{◌≡◌, ℕ, zero, suc, ◌+◌, ◌-◌, ◌<◌, ◌≤◌, ◌^◌, ℤ, pos, negsuc, List, [], ◌∷◌, ◌++◌, Some, None, length, slice_get, slice_index_or, ap, sym, subst, refl, ◌∙◌, arith, inr, length-append}
 use Rattle.zir_tree.specs.declared.place.Place.{Place}
 use Rattle.zir_tree.specs.declared.types.Base.TheVariants.{Unit as UnitTy, Int32}
-use Rattle.zir_tree.specs.declared.types.Ty.{Ty}
-use Rattle.zir_tree.specs.declared.value.Val.{Val, Unit as UnitVal, Num}
+use Rattle.zir_tree.specs.declared.value.Val.{Val, Num}
 use Rattle.zir_tree.specs.declared.expr.Expr.{Expr}
 use Rattle.zir_tree.specs.declared.comp.Comp.{Comp, Times', more_of-Comp, end_of-Comp}
 use Rattle.zir_meaning.specs.Values.{num_of}
 use Rattle.zir_meaning.specs.Trace.{State}
-use Rattle.zir_meaning.specs.Statements.{turns_of, next_index, leave}
+use Rattle.zir_meaning.specs.Statements.{turns_of, leave}
 use Rattle.zir_meaning.specs.Instances.{around}
 use Rattle.zir_laws.specs.Process.{Proc, counted_proc, tick_proc, proc}
 use Rattle.zir_shapes.specs.Offsets.{plain_type as plain}
-use Rattle.zir_expr.specs.declared.frame.Spot.TheVariants.{Local}
-use Rattle.zir_expr.specs.Memory.{cell_at, put_cell, after, from_base, place_of}
+use Rattle.zir_expr.specs.Memory.{cell_at, put_cell, after, from_base}
 use Rattle.zir_expr.specs.Memory.Frames.{Memory}
 use Rattle.zir_code.specs.Scopes.{Scope}
 use Rattle.zir_code.specs.Coding.{stands, code_of, settling}
@@ -30,8 +28,8 @@ use Rattle.zir_flow.specs.Playing.{Watch}
 use Rattle.zir_flow.specs.Program.{CodeAt}
 use Rattle.zir_flow.proofs.Reaching.{Reaches}
 use Rattle.zir_flow.proofs.Playing.{Arriving, Arrives, arrives_on}
-use Rattle.zir_flow.proofs.Standing.{Ground, Stands, Arrived, Solid, watched, ComponentArrives}
-use Rattle.zir_flow.proofs.Straight.{code_here, code_front, code_back, code_next, code_ends, onward_place, goes_to, spares_none, spares_then, spares_kept, spares_changed, stands_changed, stands_moved, stands_more, settled_arrives, ticked_state, ticked_thread, tick_arrives}
+use Rattle.zir_flow.proofs.Standing.{Ground, Stands, Arrived, watched, ComponentArrives}
+use Rattle.zir_flow.proofs.Straight.{code_here, code_front, code_back, code_next, code_ends, onward_place, goes_to, spares_then, spares_kept, spares_changed, stands_changed, stands_moved, stands_more, settled_arrives, ticked_state, ticked_thread, tick_arrives}
 use Rattle.zir_flow.proofs.Rounds.{counts_arrive, Since, back_to, unit_since}
 use Rattle.zir_flow.proofs.Within.{outside_order, within_more, stands_left, inner_arrives}
 
@@ -82,17 +80,19 @@ pub over_since : (a : Ground) (g : Scope) (d place c k : ℕ) (m : Memory) (rest
     Spares a.top a.base d g m th.memory → (st' : Stage) × Reaches a.code (Alone th room) st' × Since a g d (place + 1 + k) m s st'
 over_since a g d place c k m rest s th room lt at e h p =
     let th' : Thread = onward k th in
-    let q : turns_of (cell_at (from_base th.base c) th.memory) ≡ 0 = ap (λ base. turns_of (cell_at (from_base base c) th.memory)) h.base_is ∙ e in
-    (Alone th' room,
-    goes_to a.code (Turn c k) th th' room (ap (slice_get a.code) h.place_is ∙ code_here a.code place (Turn c k) rest at)
-    (turn_over (cell_at (from_base th.base c) th.memory) (from_base th.base c) k th q), record {
-      th = th';
-      room = room;
-      alone = refl;
-      stands = stands_moved a g d place (place + 1 + k) th'.place th room s h
-          (ap (λ p. from_base (after p) k) h.place_is ∙ onward_place place k lt);
-      spared = p;
-    })
+    let q : turns_of (cell_at (from_base th.base c) th.memory) ≡ 0 = ap (λ base. turns_of (cell_at (from_base base c) th.memory)) h.base_is ∙ e in (
+      Alone th' room,
+      goes_to a.code (Turn c k) th th' room (ap (slice_get a.code) h.place_is ∙ code_here a.code place (Turn c k) rest at)
+          (turn_over (cell_at (from_base th.base c) th.memory) (from_base th.base c) k th q),
+      record {
+        th = th';
+        room = room;
+        alone = refl;
+        stands = stands_moved a g d place (place + 1 + k) th'.place th room s h
+            (ap (λ p. from_base (after p) k) h.place_is ∙ onward_place place k lt);
+        spared = p;
+      },
+    )
 
 -- a turn and its tick, and what follows
 pub turn_ticks : (A : Arriving) (w : Watch) (a : Ground) (g : Scope) (d place c k n : ℕ) (m : Memory) (rest : List Instruction) (s : State) (th : Thread)
@@ -196,15 +196,18 @@ times_arrives a e c p arrives g input out d place th room s solid flows at deep 
                 (λ j q. outside_order a.base a.base (a.base + d) g.locals j h.held.locals_in (omega arith)) y.spared) ∙ z.so;
           }));
       again = λ k i v' s' st' z.
-          (let y = back_to a g d behind (place + 1) (n + 2) [] (leave names s') z.th z.room small back to z.stands in
-          (Alone (backward (n + 2) z.th) z.room, subst (λ x. Reaches a.code x (Alone (backward (n + 2) z.th) z.room)) (sym z.alone) y.0, record {
-            th = backward (n + 2) z.th;
-            room = z.room;
-            alone = refl;
-            stands = y.1;
-            spared = z.spared;
-            so = z.so;
-          }));
+          (let y = back_to a g d behind (place + 1) (n + 2) [] (leave names s') z.th z.room small back to z.stands in (
+            Alone (backward (n + 2) z.th) z.room,
+            subst (λ x. Reaches a.code x (Alone (backward (n + 2) z.th) z.room)) (sym z.alone) y.0,
+            record {
+              th = backward (n + 2) z.th;
+              room = z.room;
+              alone = refl;
+              stands = y.1;
+              spared = z.spared;
+              so = z.so;
+            },
+          ));
     })
     (record {
       th = next_with th m1;

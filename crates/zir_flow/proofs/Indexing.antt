@@ -2,12 +2,12 @@
 use Rattle.std.specs.Prelude.{◌+ℤ◌}
 use Rattle.std.specs.Int.{int_wrap}
 use mir.Syntax.{w32}
-use Rattle.std.proofs.Common.{◌≡◌, ℕ, zero, suc, ◌+◌, ◌%◌, ◌<◌, ◌≤◌, ◌^◌, ℤ, pos, List, [], ◌∷◌, ◌++◌, Some, None, length, slice_get, slice_index_or, ap, sym, subst, refl, ◌∙◌, arith, inl, inr, length-append, append_assoc}
+use Rattle.std.proofs.Common.{◌≡◌, ℕ, ◌+◌, ◌%◌, ◌<◌, ◌≤◌, ◌^◌, ℤ, pos, List, [], ◌∷◌, ◌++◌, Some, length, slice_get, slice_index_or, ap, sym, subst, refl, ◌∙◌, arith, inl, inr, length-append, append_assoc}
 use Rattle.zir_tree.specs.declared.place.Place.{Place}
 use Rattle.zir_tree.specs.declared.ident.Ident.{Ident}
 use Rattle.zir_tree.specs.declared.types.Base.TheVariants.{Unit as UnitTy, Int32}
 use Rattle.zir_tree.specs.declared.types.Ty.{Ty}
-use Rattle.zir_tree.specs.declared.value.Val.{Val, Unit as UnitVal, Num}
+use Rattle.zir_tree.specs.declared.value.Val.{Val, Num}
 use Rattle.zir_tree.specs.declared.expr.Expr.{Expr}
 use Rattle.zir_tree.specs.declared.comp.Comp.{Comp, For', more_of-Comp, end_of-Comp}
 use Rattle.zir_meaning.specs.Values.{num_of}
@@ -44,7 +44,7 @@ use Rattle.zir_flow.specs.Program.{CodeAt}
 use Rattle.zir_flow.proofs.Reaching.{Reaches}
 use Rattle.zir_flow.proofs.Playing.{Arriving, Arrives}
 use Rattle.zir_flow.proofs.Standing.{Ground, Stands, Arrived, Solid, watched, ComponentArrives}
-use Rattle.zir_flow.proofs.Straight.{code_here, code_front, code_back, code_next, code_ends, place_fits, spares_none, spares_then, spares_kept, spares_changed, stands_kept, stands_changed, stands_more, run_arrives, RanArrives, ran_then, ran_ends, ev_keeps, settled_agrees, steps_arrive, ticked_state}
+use Rattle.zir_flow.proofs.Straight.{code_here, code_front, code_back, code_next, code_ends, place_fits, spares_then, spares_kept, spares_changed, stands_kept, stands_changed, stands_more, run_arrives, RanArrives, ran_then, ran_ends, ev_keeps, settled_agrees, steps_arrive}
 use Rattle.zir_flow.proofs.Rounds.{counts_arrive, back_to, unit_since}
 use Rattle.zir_flow.proofs.Within.{outside_local, within_local, stands_left, inner_arrives}
 use Rattle.zir_flow.proofs.Counting.{Counting, Left, number_from, free_written, free_is, over_since, turn_ticks, spared_cell}
@@ -55,8 +55,10 @@ bounds_arrive : (A : Arriving) (w : Watch) (a : Ground) (g : Scope) (d place : �
     CodeAt a.code place (Run (code_of g x d ++ (settling (stands g x d) d 1 ++ (code_of g y (d + 1) ++ settling (stands g y (d + 1)) (d + 1) 1))) ∷ rest) →
     Stands a g d place th room s →
     ((v v' : Val) (s' : State) (m : Memory) → v ≡ Num (cell_at (from_base a.base d) m) → v' ≡ Num (cell_at (from_base a.base (d + 1)) m) →
-    Kept a.top a.base d g th.memory m s s' → Stands a g d (place + 1) (next_with th m) room s' → Arrives A w a.code (next v v' s') (Alone (next_with th m) room)) →
-    Arrives A w a.code (with_proc (ev (around a.core).library x s) (λ v s1. with_proc (ev (around a.core).library y s1) (λ v' s2. next v v' s2))) (Alone th room)
+    Kept a.top a.base d g th.memory m s s' → Stands a g d (place + 1) (next_with th m) room s' →
+    Arrives A w a.code (next v v' s') (Alone (next_with th m) room)) →
+    Arrives A w a.code (with_proc (ev (around a.core).library x s) (λ v s1. with_proc (ev (around a.core).library y s1) (λ v' s2. next v v' s2)))
+    (Alone th room)
 bounds_arrive A w a g d place x y rest th room s next solid fx fy lt c h k =
     let m : Memory = th.memory in
     let cells : a.base + a.n ≤ length m.cells = h.held.room in
@@ -104,6 +106,7 @@ after_index base d m =
 index_goes : (base d : ℕ) (p : Place) (m : Memory) → go_all (index_code d p) base m ≡ Done (after_index base d m)
 index_goes base d p m = refl
 
+-- what that memory holds
 indexed : (base d n : ℕ) (i : ℤ) (m : Memory) → base + n ≤ length m.cells → length m.cells < 2 ^ 63 → d + 4 ≤ n → cell_at (from_base base d) m ≡ i →
     Indexed base d i m (after_index base d m)
 indexed base d n i m room small le e =
@@ -142,7 +145,8 @@ pub stands_bound : (a : Ground) (g : Scope) (d d' place id : ℕ) (ty : Ty) (v :
     Stands a (with_local g d id ty) d' place th room (bind id v s)
 stands_bound a g d d' place id ty v th room s e le f c h = record {
   held = subst (λ k. Holds a.top a.base k a.n (with_local g d id ty) th.memory (bind id v s)) e
-      (bound_holds a.top a.base d a.n g th.memory th.memory s id ty v (omega arith) f c (no_change (a.base + d) (a.base + d + cells_for g ty) th.memory) h.held);
+      (bound_holds a.top a.base d a.n g th.memory th.memory s id ty v (omega arith) f c
+      (no_change (a.base + d) (a.base + d + cells_for g ty) th.memory) h.held);
   place_is = h.place_is;
   base_is = h.base_is;
   calls_are = h.calls_are;
@@ -237,14 +241,15 @@ for_arrives a name x y c p arrives g input out d place th room s solid flows at 
           let size3 : length m3.cells ≡ length m2.cells = r.changed.size in
           let th3 : Thread = next_with z.th m3 in
           let h3 = stands_changed a g d (place + 1 + 1 + 1) (a.base + d) (a.base + d + 4) z.th z.room s' m3 (omega arith) (omega arith) z.stands r.changed in
-          let p3 = spares_then a.top a.base d g m m2 m3 z.spared (spares_changed a.top a.base d (a.base + d) (a.base + d + 4) g m2 m3 (omega arith) r.changed) in
+          let p3 = spares_then a.top a.base d g m m2 m3 z.spared
+          (spares_changed a.top a.base d (a.base + d) (a.base + d + 4) g m2 m3 (omega arith) r.changed) in
           let named : slice_index_or m3.cells (a.base + (d + 2)) (pos 0) ≡ i = subst (λ o. slice_index_or m3.cells o (pos 0) ≡ i) q2 r.named in
           let h4 = stands_bound a g (d + 2) (d + 3) (place + 1 + 1 + 1 + 1) name.id (plain Int32) (Num i) th3 z.room s' (omega arith) (omega arith) (i, refl)
           (omega arith, named, tt) (stands_more a g d (d + 2) (place + 1 + 1 + 1 + 1) th3 z.room s' (omega arith) h3) in
           let B = (λ (u : Val) (s2 : State) (st2 : Stage). I behind k (next_index i) (leave names s2) st2) in
           subst (Arrives B w a.code (proc (around a.core) a.procs c (bind name.id (Num i) s'))) (sym z.alone)
-          (steps_arrive B w a g d (place + 1 + 1 + 1) (index_code d p) (body ++ last) z.th z.room s' m3 (proc (around a.core) a.procs c (bind name.id (Num i) s'))
-          at3 z.stands (index_goes a.base d p m2)
+          (steps_arrive B w a g d (place + 1 + 1 + 1) (index_code d p) (body ++ last) z.th z.room s' m3
+          (proc (around a.core) a.procs c (bind name.id (Num i) s')) at3 z.stands (index_goes a.base d p m2)
           (inner_arrives B a g g' input out d (d + 3) (place + 1 + 1 + 1 + 1) m c th3 z.room (bind name.id (Num i) s') arrives within
           (solid_local a g (d + 2) name.id (plain Int32) solid) flows.3 inside deep covers h4 p3
           (λ u s2 st2 o. record {
@@ -255,21 +260,26 @@ for_arrives a name x y c p arrives g input out d place th room s solid flows at 
             spared = spares_then a.top a.base d g m m3 o.th.memory p3 (within.spares m3 o.th.memory o.spared);
             so = (
               ap turns_of (spared_cell a g' (d + 3) (d + 1) m3 o.th.memory h.held.apart (omega arith) (omega arith)
-                  (λ j e. outside_local a.base d (d + 2) name.id (d + 1) j g (plain Int32) h.held.locals_in (omega arith) (omega arith) (omega arith) e) o.spared ∙ r.left) ∙ z.so.0,
+                  (λ j e. outside_local a.base d (d + 2) name.id (d + 1) j g (plain Int32) h.held.locals_in (omega arith) (omega arith) (omega arith) e)
+                  o.spared ∙ r.left) ∙ z.so.0,
               spared_cell a g' (d + 3) d m3 o.th.memory h.held.apart (omega arith) (omega arith)
-                  (λ j e. outside_local a.base d (d + 2) name.id d j g (plain Int32) h.held.locals_in (omega arith) (omega arith) (omega arith) e) o.spared ∙ r.next,
+                  (λ j e. outside_local a.base d (d + 2) name.id d j g (plain Int32) h.held.locals_in (omega arith) (omega arith) (omega arith) e)
+                  o.spared ∙ r.next,
             );
           }))));
       again = λ k i u s' st' z.
-          (let o = back_to a g d behind (place + 1) (n + 3) [] (leave names s') z.th z.room small back to z.stands in
-          (Alone (backward (n + 3) z.th) z.room, subst (λ st. Reaches a.code st (Alone (backward (n + 3) z.th) z.room)) (sym z.alone) o.0, record {
-            th = backward (n + 3) z.th;
-            room = z.room;
-            alone = refl;
-            stands = o.1;
-            spared = z.spared;
-            so = z.so;
-          }));
+          (let o = back_to a g d behind (place + 1) (n + 3) [] (leave names s') z.th z.room small back to z.stands in (
+            Alone (backward (n + 3) z.th) z.room,
+            subst (λ st. Reaches a.code st (Alone (backward (n + 3) z.th) z.room)) (sym z.alone) o.0,
+            record {
+              th = backward (n + 3) z.th;
+              room = z.room;
+              alone = refl;
+              stands = o.1;
+              spared = z.spared;
+              so = z.so;
+            },
+          ));
     })
     (record {
       th = next_with th m1;

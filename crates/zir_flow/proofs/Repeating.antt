@@ -1,5 +1,5 @@
 -- Loops that turn on and on, and loops with a test.
-use Rattle.std.proofs.Common.{◌≡◌, ℕ, zero, suc, ◌+◌, ◌<◌, ◌≤◌, ◌^◌, List, [], ◌∷◌, ◌++◌, Bool, true, false, not, Some, length, slice_get, ap, sym, subst, refl, ◌∙◌, arith, inl, inr, length-append}
+use Rattle.std.proofs.Common.{◌≡◌, ℕ, ◌+◌, ◌<◌, ◌≤◌, ◌^◌, List, [], ◌∷◌, ◌++◌, Bool, true, false, not, Some, length, slice_get, ap, sym, subst, refl, ◌∙◌, arith, inl, inr, length-append}
 use Rattle.zir_tree.specs.declared.place.Place.{Place}
 use Rattle.zir_tree.specs.declared.types.Base.TheVariants.{Unit as UnitTy, Bool as BoolTy}
 use Rattle.zir_tree.specs.declared.types.Ty.{Ty}
@@ -137,17 +137,19 @@ pub branch_since : (b : Bool) (a : Ground) (g : Scope) (d place k : ℕ) (x : Sp
 branch_since b a g d place k x on m rest s th room lt c e h p =
     let th' : Thread = onward (branch_by b k) th in
     let q : goes_if (is_set (cell_at (place_of th.base x) th.memory)) on ≡ b =
-    ap (λ base. goes_if (is_set (cell_at (place_of base x) th.memory)) on) h.base_is ∙ e in
-    (Alone th' room,
-    goes_to a.code (Branch x on k) th th' room (ap (slice_get a.code) h.place_is ∙ code_here a.code place (Branch x on k) rest c)
-    (branch_move b (goes_if (is_set (cell_at (place_of th.base x) th.memory)) on) k th q), record {
-      th = th';
-      room = room;
-      alone = refl;
-      stands = stands_moved a g d place (branch_place b place k) th'.place th room s h
-          (ap (λ p. from_base (after p) (branch_by b k)) h.place_is ∙ branch_there b place k lt);
-      spared = p;
-    })
+    ap (λ base. goes_if (is_set (cell_at (place_of base x) th.memory)) on) h.base_is ∙ e in (
+      Alone th' room,
+      goes_to a.code (Branch x on k) th th' room (ap (slice_get a.code) h.place_is ∙ code_here a.code place (Branch x on k) rest c)
+          (branch_move b (goes_if (is_set (cell_at (place_of th.base x) th.memory)) on) k th q),
+      record {
+        th = th';
+        room = room;
+        alone = refl;
+        stands = stands_moved a g d place (branch_place b place k) th'.place th room s h
+            (ap (λ p. from_base (after p) (branch_by b k)) h.place_is ∙ branch_there b place k lt);
+        spared = p;
+      },
+    )
 
 -- a loop ends where its branch leads on
 ends_round : (turning : Turning) (b : Bool) → goes_if b (ends_where_set turning) ≡ not (goes_round turning b)

@@ -52,7 +52,8 @@ component_shrinks a g c s solid =
     (proceeds-proc (around a.core) a.procs (evaluates-library a.core.structs a.core.functions) solid.proceeds c) s
 
 -- turns of a body while a test holds: I holds at the start of each, J behind the test, K behind the tick and B behind the body
-pub record Rounds (A B : Arriving) (w : Watch) (code : List Instruction) (I J K : State → Stage → Type 0) (test : State → Eval) (body : State → Proc) : Type 1 where
+pub record Rounds (A B : Arriving) (w : Watch) (code : List Instruction) (I J K : State → Stage → Type 0) (test : State → Eval)
+    (body : State → Proc) : Type 1 where
   pub tests : (s : State) (st : Stage) (turn : State → Proc) → I s st →
       ((s' : State) (st' : Stage) → s'.left ≤ s.left → J s' st' → Arrives A w code (turn s') st') → Arrives A w code (turn_if_proc (test s) turn) st
   pub ticks : (s : State) (st : Stage) (next : State → Proc) → J s st →
@@ -104,7 +105,8 @@ pub counts_arrive : (k : ℕ) (i : ℤ) (A : Arriving) (B : ℕ → ℤ → Arri
 counts_arrive zero i A B w code names I K name body s st r h = r.over i s st h
 counts_arrive (suc k) i A B w code names I K name body s st r h =
     let e : depth s.store ≡ names = r.names_are (suc k) i s st h in
-    subst (λ n. Arrives A w code (tick_proc s (λ s'. then_proc (body (bind_index name i s')) (λ v s2. counted_proc k name (next_index i) body (leave n s2)))) st)
+    subst (λ n. Arrives A w code (tick_proc s (λ s'. then_proc (body (bind_index name i s'))
+    (λ v s2. counted_proc k name (next_index i) body (leave n s2)))) st)
     (sym e)
     (r.ticks k i s st (λ s'. then_proc (body (bind_index name i s')) (λ v s2. counted_proc k name (next_index i) body (leave names s2))) h
     (λ l st1 x. arrives_then (B k i) A w code (body (bind_index name i (ticked_state s l))) st1
@@ -164,21 +166,26 @@ pub back_to : (a : Ground) (g : Scope) (d place to k : ℕ) (rest : List Instruc
 back_to a g d place to k rest s th room lt c e h =
     let ends : place + suc (length rest) ≤ length a.code = code_ends a.code place (Again k ∷ rest) c in
     let p : (th.place + (2 ^ 64 - k)) % 2 ^ 64 ≡ to =
-    ap (λ p. (p + (2 ^ 64 - k)) % 2 ^ 64) h.place_is ∙ backward_place place k to e (omega arith) in
-    (goes_to a.code (Again k) th (backward k th) room (ap (slice_get a.code) h.place_is ∙ code_here a.code place (Again k) rest c) refl,
-    stands_moved a g d place to ((th.place + (2 ^ 64 - k)) % 2 ^ 64) th room s h p)
+    ap (λ p. (p + (2 ^ 64 - k)) % 2 ^ 64) h.place_is ∙ backward_place place k to e (omega arith) in (
+      goes_to a.code (Again k) th (backward k th) room (ap (slice_get a.code) h.place_is ∙ code_here a.code place (Again k) rest c) refl,
+      stands_moved a g d place to ((th.place + (2 ^ 64 - k)) % 2 ^ 64) th room s h p,
+    )
 
+-- the same since a memory
 pub back_since : (a : Ground) (g : Scope) (d place to k : ℕ) (m : Memory) (rest : List Instruction) (s : State) (st : Stage) → length a.code < 2 ^ 32 →
     CodeAt a.code place (Again k ∷ rest) → to + k ≡ place → Since a g d place m s st → (st' : Stage) × Reaches a.code st st' × Since a g d to m s st'
 back_since a g d place to k m rest s st lt c e h =
-    let z = back_to a g d place to k rest s h.th h.room lt c e h.stands in
-    (Alone (backward k h.th) h.room, subst (λ x. Reaches a.code x (Alone (backward k h.th) h.room)) (sym h.alone) z.0, record {
-      th = backward k h.th;
-      room = h.room;
-      alone = refl;
-      stands = z.1;
-      spared = h.spared;
-    })
+    let z = back_to a g d place to k rest s h.th h.room lt c e h.stands in (
+      Alone (backward k h.th) h.room,
+      subst (λ x. Reaches a.code x (Alone (backward k h.th) h.room)) (sym h.alone) z.0,
+      record {
+        th = backward k h.th;
+        room = h.room;
+        alone = refl;
+        stands = z.1;
+        spared = h.spared;
+      },
+    )
 
 -- an end with unit
 pub unit_since : (a : Ground) (g : Scope) (d place : ℕ) (m : Memory) (s : State) (st : Stage) → Since a g d place m s st →

@@ -1,5 +1,5 @@
 -- Components in a larger scope, and what then holds in the smaller one.
-use Rattle.std.proofs.Common.{◌≡◌, ℕ, suc, ◌+◌, ◌<◌, ◌≤◌, ◌^◌, ◌⊎◌, List, [], ◌∷◌, ◌++◌, Option, length, take, take-take, length-append, ap, sym, subst, refl, ◌∙◌, arith, inl, inr}
+use Rattle.std.proofs.Common.{◌≡◌, ℕ, ◌+◌, ◌<◌, ◌≤◌, ◌^◌, ◌⊎◌, List, [], ◌∷◌, ◌++◌, length, take, take-take, length-append, sym, subst, refl, arith, inl, inr}
 use Rattle.zir_tree.specs.declared.value.Val.{Val}
 use Rattle.zir_tree.specs.declared.types.Ty.{Ty}
 use Rattle.zir_tree.specs.declared.comp.Comp.{Comp}
@@ -9,7 +9,6 @@ use Rattle.zir_meaning.specs.Statements.{leave}
 use Rattle.zir_meaning.specs.Instances.{around}
 use Rattle.zir_laws.specs.Process.{proc}
 use Rattle.zir_shapes.specs.Shapes.{Shaped}
-use Rattle.zir_expr.specs.declared.frame.Spot.TheVariants.{Local}
 use Rattle.zir_expr.specs.Memory.{from_base, place_of}
 use Rattle.zir_expr.specs.Memory.Frames.{Memory}
 use Rattle.zir_code.specs.declared.scope.Holder.{Holder}
@@ -62,7 +61,8 @@ within_local a g d d' e id ty le low fit =
       spares = λ m m' p i x y o. p i x (omega arith) (outside_more a.base g.locals _ i (inl (omega arith)) o);
       stores = λ st store h. record {
         tops = h.tops;
-        locals = subst (Hold g.structs (seen st).cells a.base g.locals) (take-take (length g.locals) (length (with_local g e id ty).locals) store.locals (omega arith))
+        locals = subst (Hold g.structs (seen st).cells a.base g.locals)
+            (take-take (length g.locals) (length (with_local g e id ty).locals) store.locals (omega arith))
             (hold_front g.structs (seen st).cells a.base g.locals _ (take (length (with_local g e id ty).locals) store.locals) h.locals);
         size_is = h.size_is;
         room = h.room;
@@ -105,8 +105,9 @@ stands_left a g g' d d' place th room s within tops_in locals_in h =
 
 -- a component in a larger scope, since an earlier memory
 pub inner_arrives : (A : Arriving) (a : Ground) (g g' : Scope) (input out : Ty) (d d' place : ℕ) (m : Memory) (c : Comp) (th : Thread) (room : Room)
-    (s : State) → ComponentArrives a c → Within a g g' d d' → Solid a g' → Flows a.st g' a.n input out d' c → CodeAt a.code place (flow_code a.st g' input d' c) →
-    length a.calls + depth_of a.st c ≤ a.deep → Covers a.shape (shape_of a.st c) → Stands a g' d' place th room s → Spares a.top a.base d g m th.memory →
+    (s : State) → ComponentArrives a c → Within a g g' d d' → Solid a g' → Flows a.st g' a.n input out d' c →
+    CodeAt a.code place (flow_code a.st g' input d' c) → length a.calls + depth_of a.st c ≤ a.deep → Covers a.shape (shape_of a.st c) →
+    Stands a g' d' place th room s → Spares a.top a.base d g m th.memory →
     ((v : Val) (s' : State) (st' : Stage) → Arrived a g' d' (value_in a.st g' input d' c) (place + length (flow_code a.st g' input d' c)) th.memory v s' st' →
     A v s' st') →
     Arrives A (watched a g d input out m) a.code (proc (around a.core) a.procs c s) (Alone th room)
