@@ -12,3 +12,8 @@ pub mod Giving
 pub mod Taking
 pub mod Offering
 pub mod Mapping
+pub mod Rounds
+pub mod Within
+pub mod Repeating
+pub mod Counting
+pub mod Indexing
