@@ -1,3 +1,6 @@
 pub mod Reaching
 pub mod Playing
 pub mod Standing
+pub mod Staying
+pub mod Turning
+pub mod Piping
