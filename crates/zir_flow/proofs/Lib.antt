@@ -4,3 +4,4 @@ pub mod Standing
 pub mod Staying
 pub mod Turning
 pub mod Piping
+pub mod Merging
