@@ -1,7 +1,9 @@
 pub mod Reaching
 pub mod Playing
 pub mod Standing
+pub mod Straight
 pub mod Staying
 pub mod Turning
 pub mod Piping
 pub mod Merging
+pub mod Joining

@@ -1,5 +1,5 @@
 -- Cells that the left side of a composition brings back: the variables that it assigns, over the cells of the right side.
-use Rattle.std.proofs.Common.{◌≡◌, ◌∙◌, ◌+◌, ◌<◌, ◌≤◌, ◌≢◌, ◌^◌, ◌⊎◌, ℕ, zero, suc, ℤ, List, [], ◌∷◌, ◌++◌, Bool, true, false, if◌then◌else◌, nat_eq, length, take, ap, sym, subst, refl, arith, inl, inr, take_all}
+use Rattle.std.proofs.Common.{◌≡◌, ◌∙◌, ◌+◌, ◌<◌, ◌≤◌, ◌≢◌, ◌^◌, ◌⊎◌, ℕ, zero, suc, ℤ, List, [], ◌∷◌, ◌++◌, Bool, true, false, if◌then◌else◌, nat_eq, length, take, ap, sym, subst, refl, arith, inl, inr}
 use Rattle.std.proofs.lemmas.Bool.{eqb-true, eq-eqb}
 use Rattle.std.proofs.lemmas.Bool.Decides.{eqb_tells}
 use Rattle.zir_tree.specs.declared.value.Val.{Val}
@@ -16,13 +16,14 @@ use Rattle.zir_code.specs.Holding.{At, HoldsOne, Hold, InOrder, Outside}
 use Rattle.zir_code.specs.Fine.{Absent}
 use Rattle.zir_code.proofs.Cells.{cell, at_moved}
 use Rattle.zir_code.proofs.Kept.{order_ends, held_size, same_one, same_hold, Changed, changed_both, changed_cell, cell_written}
-use Rattle.zir_code.proofs.Stores.{hold_length, hold_other}
+use Rattle.zir_code.proofs.Stores.{hold_other}
 use Rattle.zir_code.proofs.Blank.{no_change}
 use Rattle.zir_flow.specs.declared.instruction.Back.{Back}
 use Rattle.zir_flow.specs.Threads.{cells_from, written}
 use Rattle.zir_flow.specs.Stages.{brought_back}
 use Rattle.zir_flow.specs.Flowing.{back_if, back_among, back_of}
 use Rattle.zir_flow.specs.Fitting.{Distinct}
+use Rattle.zir_flow.proofs.Straight.{locals_all}
 
 -- CELLS OVER OTHERS
 
@@ -112,10 +113,6 @@ all_found structs cells base (d ∷ ds) (s ∷ all) a h = (
   λ v. found_here (nat_eq s.id s.id) s (found_or v all s.id) (eq-eqb s.id s.id refl),
   found_more structs cells base ds (take (length ds) all) all s h.1 (subst (Absent ds) h.0.id a.0) (all_found structs cells base ds all a.1 h.1),
 )
-
-pub hold_all : (structs : List StructDef) (cells : List ℤ) (base : ℕ) (ds : List Holder) (slots : List Slot) → Hold structs cells base ds slots →
-    take (length ds) slots ≡ slots
-hold_all structs cells base ds slots h = take_all (length ds) slots (let e = hold_length structs cells base ds slots h in omega arith)
 
 pub take_merge : (k : ℕ) (ids : List ℕ) (left right : List Slot) → take k (merge_slots ids left right) ≡ merge_slots ids left (take k right)
 take_merge zero ids left right = refl
@@ -218,7 +215,7 @@ pub joins : (ids : List ℕ) (top base d : ℕ) (g : Scope) (sl : Store) (tops l
     Hold g.structs r.cells base g.locals locals → base + d ≤ length r.cells → length r.cells < 2 ^ 63 →
     Joins base g (merge_slots ids sl.tops tops) (merge_slots ids sl.locals locals) r (brought_back (back_of ids g) base l r)
 joins ids top base d g sl tops locals l r ot ol apart dt dl lt ll rt rl le small =
-    let all : take (length g.tops) sl.tops ≡ sl.tops = hold_all g.structs l.cells base g.tops sl.tops lt in
+    let all : take (length g.tops) sl.tops ≡ sl.tops = locals_all g.structs l.cells base g.tops sl.tops lt in
     let found : AllFound sl.tops sl.tops = subst (AllFound sl.tops) all
         (all_found g.structs l.cells base g.tops sl.tops dt (subst (Hold g.structs l.cells base g.tops) (sym all) lt)) in
     let r1 : Memory = brought_back (back_among ids g.tops) base l r in
