@@ -7,3 +7,4 @@ pub mod Turning
 pub mod Piping
 pub mod Merging
 pub mod Joining
+pub mod Composing
