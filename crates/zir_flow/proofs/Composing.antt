@@ -1,5 +1,5 @@
 -- A composition arrives where both of its sides do.
-use Rattle.std.proofs.Common.{◌≡◌, ◌∙◌, ◌+◌, ◌-◌, ◌<◌, ◌≤◌, ◌%◌, ◌^◌, ◌⊎◌, max, ℕ, suc, ℤ, List, [], ◌∷◌, ◌++◌, Option, Some, None, length, take, slice_get, ap, sym, subst, refl, arith, inl, inr, length-append}
+use Rattle.std.proofs.Common.{◌≡◌, ◌∙◌, ◌+◌, ◌<◌, ◌≤◌, ◌^◌, max, ℕ, suc, ℤ, List, [], ◌∷◌, ◌++◌, Option, Some, None, length, take, slice_get, ap, sym, subst, refl, arith, inl, inr, length-append}
 use Rattle.zir_tree.specs.declared.value.Val.{Val}
 use Rattle.zir_tree.specs.declared.types.Ty.{Ty}
 use Rattle.zir_tree.specs.declared.place.Place.{Place}
@@ -7,19 +7,18 @@ use Rattle.zir_tree.specs.declared.comp.Link.{Link}
 use Rattle.zir_tree.specs.declared.comp.Comp.{Comp, Pipe', end_of-Comp, more_of-Comp}
 use Rattle.zir_meaning.specs.Store.{Store, depth, merge, merge_slots}
 use Rattle.zir_meaning.specs.Trace.{State, Point, point}
-use Rattle.zir_meaning.specs.Composition.{limit, over, at_point, waiting, fresh}
+use Rattle.zir_meaning.specs.Composition.{over, at_point, waiting, fresh}
 use Rattle.zir_tree.specs.declared.ends.End.TheVariants.{Value}
 use Rattle.zir_meaning.specs.Assigned.{assigns}
 use Rattle.zir_meaning.specs.Instances.{around}
 use Rattle.zir_cells.specs.Cells.{cells_of}
-use Rattle.zir_shapes.specs.Shapes.{Shaped}
 use Rattle.zir_shapes.proofs.Fitting.{sizes-fit}
 use Rattle.zir_laws.specs.Process.{Proc, proc, piped}
 use Rattle.zir_expr.specs.Memory.{from_base}
 use Rattle.zir_expr.specs.Memory.Frames.{Memory}
 use Rattle.zir_code.specs.Scopes.{Scope}
 use Rattle.zir_code.specs.Types.{type_or_unit, cells_for}
-use Rattle.zir_code.specs.Holding.{At, Hold, InOrder, Holds, Outside, Spares}
+use Rattle.zir_code.specs.Holding.{At, Hold, InOrder, Holds, Spares}
 use Rattle.zir_code.proofs.Cells.{cell, at_same}
 use Rattle.zir_code.proofs.Kept.{low_place, same_hold}
 use Rattle.zir_code.proofs.Stores.{hold_length}
@@ -30,15 +29,15 @@ use Rattle.zir_flow.specs.Threads.{Thread, cells_from, written}
 use Rattle.zir_flow.specs.Stages.{Stage, Alone, Joined, Room, Closed, Open, brought_back, seen, room_of, emptied, left_begins, right_begins, left_ended, right_ended}
 use Rattle.zir_flow.specs.Kinds.{Shape, Flat, Split, first_of, value_in, output_in}
 use Rattle.zir_flow.specs.Flowing.{back_of, flow_code}
-use Rattle.zir_flow.specs.Fitting.{Distinct, OneEnds, Flows, RoomFits, depth_of, shape_of}
+use Rattle.zir_flow.specs.Fitting.{Distinct, OneEnds, RoomFits, depth_of, shape_of}
 use Rattle.zir_flow.specs.Playing.{PointIs}
 use Rattle.zir_flow.specs.Program.{CodeAt}
 use Rattle.zir_flow.specs.Laws.{HoldsStore, ValueStands}
 use Rattle.zir_flow.proofs.Playing.{Arrives, arrives_on}
 use Rattle.zir_flow.proofs.Standing.{Ground, Covers, Stands, HoldsKept, watched, Arrived, Solid, ComponentArrives}
 use Rattle.zir_flow.proofs.Straight.{locals_all, code_here, code_front, code_back, code_next, code_ends, held_since, holds_store, spares_none}
-use Rattle.zir_flow.proofs.Piping.{Sides, GoesWhere, Halted, piped_arrives}
-use Rattle.zir_flow.proofs.Merging.{Joins, joins, written_over, outside_above, outside_below, take_merge}
+use Rattle.zir_flow.proofs.Piping.{Sides, GoesWhere, piped_arrives}
+use Rattle.zir_flow.proofs.Merging.{Joins, joins, written_over, outside_above, take_merge}
 use Rattle.zir_flow.proofs.Joining.{side_of, begins, left_stands, right_stands, side_arrives}
 
 -- what is known of a composition that began in a state: its thread stood there, and its sides' variables and values have cells of their own
@@ -137,7 +136,7 @@ behind_stands a g d behind sl sr vl vr ids j th s x m ml l r p t k tops locals s
 
 right_first : (vl vr : Option Ty) (is : Ty) → OneEnds vl vr → vr ≡ Some is → first_of vl vr ≡ Some is
 right_first None vr is o e = e
-right_first (Some t) vr is o e = elim o [ | inl h ↦ cc | inr h ↦ cc ]
+right_first (Some t) vr is o e = elim o [ inl h ↦ cc | inr h ↦ cc ]
 
 left_first : (vl vr : Option Ty) (is : Ty) → vl ≡ Some is → first_of vl vr ≡ Some is
 left_first None vr is e = cc
@@ -177,7 +176,7 @@ right_over_at a g d behind sl sr vl vr ids j th s x ml place v l thr room p s2 t
     let size : length m.cells ≡ length thr.memory.cells = b.size in
     let first : from_base a.base d ≡ a.base + d = low_place a.base d (omega arith) in
     let ends : a.base + d + length (cells_of v) ≤ length thr.memory.cells =
-        value_ends thr.memory.cells (cells_of v) (a.base + d) (omega arith) (subst (λ i. At thr.memory.cells i (cells_of v)) first value.cells) in
+    value_ends thr.memory.cells (cells_of v) (a.base + d) (omega arith) (subst (λ i. At thr.memory.cells i (cells_of v)) first value.cells) in
     record {
       th = record th { place = from_base (from_base th.place 1) j.behind; memory = record m { used = k; limit = th.memory.limit }; taken = t };
       room = Open (seen l) (room_of l) room;
@@ -217,7 +216,7 @@ left_over_at a g d behind sl sr vl vr ids j th s x place v thl room r s1 s2 t k 
     let first : from_base a.base d ≡ a.base + d = low_place a.base d (omega arith) in
     let from : i0 ≡ a.base + d = ap (λ y. from_base y j.scope) x.base_is ∙ ap (from_base a.base) x.scope_is ∙ first in
     let n : length (cells_of v) ≡ j.value =
-        sizes-fit g.structs value.is v value.shape ∙ ap (λ y. cells_for g (type_or_unit y)) (sym value.has) ∙ sym x.value_is in
+    sizes-fit g.structs value.is v value.shape ∙ ap (λ y. cells_for g (type_or_unit y)) (sym value.has) ∙ sym x.value_is in
     let count : j.value ≡ cells_for g (type_or_unit vl) = x.value_is in
     let size0 : length b0.cells ≡ a.size = b.size ∙ hr.held.size_is in
     let own : length thl.memory.cells ≡ a.size = h.size_is in
@@ -362,8 +361,8 @@ joint_arrives a g input between out d place sl sr vl vr ids j th spare l r s lef
     (held_since (side_of a sl) g d d (place + 1) first.memory first l s begun (spares_none a.top a.base d g first.memory))
     (side_arrives (side_of a sl) g d (place + 1 + length left) vl first.memory (right ++ Stop ∷ []) (watched (side_of a sl) g d input between first.memory) pl
     (Alone first l) parts.left_stop (al begun))
-    (side_arrives (side_of a sr) g d (place + 1 + (length left + 1) + length right) vr second.memory [] (watched (side_of a sr) g d between out second.memory) pr
-    (Alone second r) parts.right_stop (ar started)))
+    (side_arrives (side_of a sr) g d (place + 1 + (length left + 1) + length right) vr second.memory [] (watched (side_of a sr) g d between out second.memory)
+    pr (Alone second r) parts.right_stop (ar started)))
 
 -- a composition arrives where both sides do, on every ground
 pub pipe_arrives : (a : Ground) (link : Link) (l r : Comp) (p : Place) → ((b : Ground) → ComponentArrives b l) → ((b : Ground) → ComponentArrives b r) →
@@ -389,8 +388,8 @@ pipe_arrives a link l r p al ar g input out d place th room s x flows code deep 
     let rooms = opened a.size shapes.left shapes.right room (subst (λ y. RoomFits a.size y room) shapes.is h.room_fits) in
     let behind : ℕ = place + 1 + (length left + length right + 2) in
     let behind_is : from_base (from_base th.place 1) j.behind ≡ behind =
-        ap (λ y. from_base (from_base y 1) j.behind) h.place_is ∙ ap (λ y. from_base y j.behind) (low_place place 1 (omega arith))
-        ∙ low_place (place + 1) j.behind (omega arith) in
+    ap (λ y. from_base (from_base y 1) j.behind) h.place_is ∙ ap (λ y. from_base y j.behind) (low_place place 1 (omega arith))
+    ∙ low_place (place + 1) j.behind (omega arith) in
     let names : depth s.store ≡ length g.locals = hold_length g.structs th.memory.cells a.base g.locals s.store.locals h.held.locals in
     let fit : d + max (cells_for g (type_or_unit vl)) (cells_for g (type_or_unit vr)) ≤ a.n = flows.4 in
     let setup : Setup a g d behind shapes.left shapes.right vl vr ids j th s = record {

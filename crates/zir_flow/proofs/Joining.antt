@@ -1,25 +1,23 @@
 -- A composition begins: where its two sides stand then, and where a side ends.
-use Rattle.std.proofs.Common.{◌≡◌, ◌∙◌, ◌+◌, ◌-◌, ◌<◌, ◌≤◌, ◌%◌, ◌^◌, ℕ, List, [], ◌∷◌, Option, Some, length, slice_get, ap, sym, subst, refl, arith}
+use Rattle.std.proofs.Common.{◌≡◌, ◌∙◌, ◌+◌, ◌<◌, ◌≤◌, ◌^◌, ℕ, List, [], ◌∷◌, Option, Some, length, slice_get, ap, sym, subst, refl, arith}
 use Rattle.zir_tree.specs.declared.value.Val.{Val}
 use Rattle.zir_tree.specs.declared.types.Ty.{Ty}
-use Rattle.zir_meaning.specs.Store.{Store}
-use Rattle.zir_meaning.specs.Trace.{State, point}
+use Rattle.zir_meaning.specs.Trace.{State}
 use Rattle.zir_meaning.specs.Composition.{fresh}
 use Rattle.zir_laws.specs.Process.{Proc}
 use Rattle.zir_expr.specs.Memory.{from_base}
 use Rattle.zir_expr.specs.Memory.Frames.{Memory}
 use Rattle.zir_code.specs.Scopes.{Scope}
-use Rattle.zir_code.specs.Holding.{InOrder, Holds}
-use Rattle.zir_code.proofs.Cells.{cell}
+use Rattle.zir_code.specs.Holding.{Holds}
 use Rattle.zir_code.proofs.Kept.{low_place, same_hold}
 use Rattle.zir_flow.specs.declared.instruction.Joint.{Joint}
 use Rattle.zir_flow.specs.declared.instruction.Instruction.{Instruction}
 use Rattle.zir_flow.specs.declared.instruction.Instruction.TheVariants.{Pipe, Stop}
 use Rattle.zir_flow.specs.Threads.{Thread}
-use Rattle.zir_flow.specs.Stages.{Stage, Alone, Joined, Room, Open, Ended, turn, copied, emptied, left_begins, right_begins}
+use Rattle.zir_flow.specs.Stages.{Stage, Alone, Joined, Room, Open, Ended, copied, emptied, left_begins, right_begins}
 use Rattle.zir_flow.specs.Kinds.{Shape}
 use Rattle.zir_flow.specs.Fitting.{RoomFits}
-use Rattle.zir_flow.specs.Playing.{Watch, PointIs, Comes}
+use Rattle.zir_flow.specs.Playing.{Watch}
 use Rattle.zir_flow.specs.Program.{CodeAt}
 use Rattle.zir_flow.proofs.Reaching.{Reaches, one_turn, comes_next}
 use Rattle.zir_flow.proofs.Playing.{Arrives, arrives_holds}
@@ -77,9 +75,9 @@ left_stands a g d place shape j th spare room left s h e le lt size fits =
     let small = h.held.small in
     let wide = h.held.room in
     let at : from_base th.base j.scope ≡ a.base + d =
-        ap (λ b. from_base b j.scope) h.base_is ∙ ap (from_base a.base) e ∙ low_place a.base d (omega arith) in
+    ap (λ b. from_base b j.scope) h.base_is ∙ ap (from_base a.base) e ∙ low_place a.base d (omega arith) in
     let held : Holds a.top a.base d a.n g (copied (a.base + d) th.memory spare) s =
-        held_copied a.top a.base d a.n g th.memory spare s le same h.held in
+    held_copied a.top a.base d a.n g th.memory spare s le same h.held in
     let o = copied_over (a.base + d) th.memory spare (omega arith) (omega arith) in
     record {
       held = subst (λ k. Holds a.top a.base d a.n g (copied k th.memory spare) s) (sym at) held;
@@ -122,8 +120,8 @@ right_stands a g d place right shape j th room rest s h e lt fits =
       room_fits = fits;
     }
 
-halted_alone : (a : Ground) (g : Scope) (d place : ℕ) (ty : Option Ty) (m : Memory) (rest : List Instruction) (v : Val) (s : State) (th : Thread) (room : Room) →
-    CodeAt a.code place (Stop ∷ rest) → Stands a g d place th room s → Arrived a g d ty place m v s (Alone th room) →
+halted_alone : (a : Ground) (g : Scope) (d place : ℕ) (ty : Option Ty) (m : Memory) (rest : List Instruction) (v : Val) (s : State) (th : Thread)
+    (room : Room) → CodeAt a.code place (Stop ∷ rest) → Stands a g d place th room s → Arrived a g d ty place m v s (Alone th room) →
     Halted (Arrived a g d ty place m) a.code v s (Alone th room)
 halted_alone a g d place ty m rest v s th room c h w =
     let at : slice_get a.code th.place ≡ Some Stop = ap (slice_get a.code) h.place_is ∙ code_here a.code place Stop rest c in

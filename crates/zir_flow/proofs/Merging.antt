@@ -1,6 +1,6 @@
 -- Cells that the left side of a composition brings back: the variables that it assigns, over the cells of the right side.
-use Rattle.std.proofs.Common.{◌≡◌, ◌∙◌, ◌+◌, ◌<◌, ◌≤◌, ◌≢◌, ◌^◌, ◌⊎◌, ℕ, zero, suc, ℤ, List, [], ◌∷◌, ◌++◌, Bool, true, false, if◌then◌else◌, nat_eq, length, take, ap, sym, subst, refl, arith, inl, inr}
-use Rattle.std.proofs.lemmas.Bool.{eqb-true, eq-eqb}
+use Rattle.std.proofs.Common.{◌≡◌, ◌∙◌, ◌+◌, ◌<◌, ◌≤◌, ◌^◌, ◌⊎◌, ℕ, zero, suc, ℤ, List, [], ◌∷◌, ◌++◌, Bool, true, false, if◌then◌else◌, nat_eq, length, take, ap, sym, subst, refl, arith, inl, inr}
+use Rattle.std.proofs.lemmas.Bool.{eq-eqb}
 use Rattle.std.proofs.lemmas.Bool.Decides.{eqb_tells}
 use Rattle.zir_tree.specs.declared.value.Val.{Val}
 use Rattle.zir_tree.specs.declared.value.Slot.{Slot}
@@ -191,11 +191,11 @@ brings structs ids base low high (d ∷ ds) (s ∷ ls) (t ∷ rs) all l r o hl h
     let one : One structs base d b v t r r1 = one_brought b structs base d s t v l r hl.0 hr.0 is (omega arith) small in
     let size = one.changed.size in
     let rest : Merged structs base ds (merge_slots ids all rs) r1 (brought_back (back_among ids ds) base l r1) =
-        brings structs ids base (p + d.cells) high ds ls rs all l r1 o.1 hl.1
-        (hold_other structs base (p + d.cells) high p (p + d.cells) r r1 ds rs one.changed (inr (omega arith)) o.1 hr.1) f.1 (omega arith) (omega arith) in
+    brings structs ids base (p + d.cells) high ds ls rs all l r1 o.1 hl.1
+    (hold_other structs base (p + d.cells) high p (p + d.cells) r r1 ds rs one.changed (inr (omega arith)) o.1 hr.1) f.1 (omega arith) (omega arith) in
     let m : Memory = brought_back (back_among ids ds) base l r1 in
     let whole : Merged structs base (d ∷ ds) (either_slot b v t ∷ merge_slots ids all rs) r m =
-        merged_more structs base low high d ds b v t (merge_slots ids all rs) r r1 m o one rest in
+    merged_more structs base low high d ds b v t (merge_slots ids all rs) r r1 m o one rest in
     subst (λ x. Merged structs base (d ∷ ds) (merge_slots ids all (t ∷ rs)) r x) (sym (brought_append (back_if b d) (back_among ids ds) base l r))
     (subst (λ c. Merged structs base (d ∷ ds) (either_slot c v t ∷ merge_slots ids all rs) r m) (ap (among ids) hr.0.id) whole)
 
@@ -217,16 +217,16 @@ pub joins : (ids : List ℕ) (top base d : ℕ) (g : Scope) (sl : Store) (tops l
 joins ids top base d g sl tops locals l r ot ol apart dt dl lt ll rt rl le small =
     let all : take (length g.tops) sl.tops ≡ sl.tops = locals_all g.structs l.cells base g.tops sl.tops lt in
     let found : AllFound sl.tops sl.tops = subst (AllFound sl.tops) all
-        (all_found g.structs l.cells base g.tops sl.tops dt (subst (Hold g.structs l.cells base g.tops) (sym all) lt)) in
+    (all_found g.structs l.cells base g.tops sl.tops dt (subst (Hold g.structs l.cells base g.tops) (sym all) lt)) in
     let r1 : Memory = brought_back (back_among ids g.tops) base l r in
     let m : Memory = brought_back (back_among ids g.locals) base l r1 in
     let first = brings g.structs ids base 0 top g.tops sl.tops tops sl.tops l r ot lt rt found (omega arith) small in
     let size = first.size in
     let held : Hold g.structs r1.cells base g.locals locals =
-        same_hold g.structs r.cells r1.cells base base (base + d) g.locals locals first.size
-        (λ i a h. first.others i (outside_above base 0 top i g.tops ot (omega arith))) ol rl in
+    same_hold g.structs r.cells r1.cells base base (base + d) g.locals locals first.size
+    (λ i a h. first.others i (outside_above base 0 top i g.tops ot (omega arith))) ol rl in
     let second = brings g.structs ids base base (base + d) g.locals (take (length g.locals) sl.locals) locals sl.locals l r1 ol ll held
-        (all_found g.structs l.cells base g.locals sl.locals dl ll) (omega arith) (omega arith) in
+    (all_found g.structs l.cells base g.locals sl.locals dl ll) (omega arith) (omega arith) in
     subst (Joins base g (merge_slots ids sl.tops tops) (merge_slots ids sl.locals locals) r)
     (sym (brought_append (back_among ids g.tops) (back_among ids g.locals) base l r))
     (record {

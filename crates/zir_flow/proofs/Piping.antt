@@ -1,9 +1,8 @@
 -- A stage that is joined of two comes to each event of a composition, where its sides come to the events of theirs.
-use Rattle.std.proofs.Common.{◌≡◌, ◌∙◌, ◌+◌, ◌≤◌, ◌%◌, ◌^◌, ℕ, zero, suc, List, Bool, true, false, nat_le, ap, sym, subst, refl}
+use Rattle.std.proofs.Common.{◌≡◌, ◌∙◌, ◌+◌, ◌≤◌, ℕ, zero, suc, List, Bool, true, false, nat_le, ap, sym, subst, refl}
 use Rattle.std.proofs.lemmas.Bool.{leb-true}
 use Rattle.zir_tree.specs.declared.value.Val.{Val}
 use Rattle.zir_tree.specs.declared.ends.End.{End}
-use Rattle.zir_tree.specs.declared.ends.Trap.{Trap}
 use Rattle.zir_tree.specs.declared.ends.End.TheVariants.{Value, Starved, Trap as Trapped, Spent}
 use Rattle.zir_meaning.specs.Store.{Store, merge}
 use Rattle.zir_meaning.specs.Trace.{State, Point, point}
@@ -14,7 +13,7 @@ use Rattle.zir_flow.specs.declared.instruction.Joint.{Joint}
 use Rattle.zir_flow.specs.declared.instruction.Instruction.{Instruction}
 use Rattle.zir_flow.specs.Threads.{Thread}
 use Rattle.zir_flow.specs.Stages.{Stage, Joined, Turned, Going, Giving, Needing, Ended, Failed, Gone, turn, going_on, turned_on, composed, pulled, either_turned, handed, left_ended, right_ended}
-use Rattle.zir_flow.specs.Playing.{Watch, PointIs, Comes, GivesAt, NeedsAt, TrapsAt}
+use Rattle.zir_flow.specs.Playing.{Watch, PointIs, Comes}
 use Rattle.zir_flow.proofs.Reaching.{Reaches, reaches_on, comes_on, comes_next, one_turn, stays}
 use Rattle.zir_flow.proofs.Playing.{Arriving, Arrives, ArrivesEnd, arrives_on}
 use Rattle.zir_flow.proofs.Staying.{needs_stay}
@@ -158,9 +157,6 @@ point_both ids p q t k a own x y = record { elements = x.elements; used = ap (λ
 within_same : (s : State) (th : Thread) (p : Point) (k : ℕ) → th.memory.limit ≡ limit s → p.ticks ≡ k → nat_le p.ticks (limit s) ≡ nat_le k th.memory.limit
 within_same s th p k e f = ap (λ i. nat_le i (limit s)) f ∙ ap (nat_le k) (sym e)
 
-le_of : (a b : ℕ) → nat_le a b ≡ true → a ≤ b
-le_of a b e = leb-true a b e
-
 -- the left side's end, where the right side needs an element
 pull_ends : (A EL ER : Arriving) (w wl wr : Watch) (code : List Instruction) (ids : List ℕ) (d : ℕ) (s : State) (j : Joint) (th : Thread) →
     Sides A EL ER w wl wr code ids d s j th → (e : End) (s1 s2 : State) (l r : Stage) (t k a own : ℕ) → turn code r ≡ Needing a own r →
@@ -172,12 +168,12 @@ pull_ends A EL ER w wl wr code ids d s j th x (Value v) s1 s2 l r t k a own need
     let way = reaches_stops code l h.0 (Ended y.taken y.ticks y.last) h.1 (stops code h.0 (Ended y.taken y.ticks y.last) tt y.comes) in
     let p : Point = over ids (point s1) (waiting d (Value v) (point s2)) in
     let is : PointIs p y.taken (y.ticks + own) =
-        point_both ids (point s1) (waiting d (Value v) (point s2)) y.taken y.ticks a own y.at (record { elements = at.elements; used = at.used }) in
+    point_both ids (point s1) (waiting d (Value v) (point s2)) y.taken y.ticks a own y.at (record { elements = at.elements; used = at.used }) in
     limited A w code (nat_le p.ticks (limit s)) (nat_le (y.ticks + own) th.memory.limit) (Ends (Value v) (at_point s p)) (Joined th j l r t k)
     (left_ended j th y.last r y.taken (y.ticks + own)) (within_same s th p (y.ticks + own) x.limit_is is.used)
     (left_stops code th j l r t k a own (Ended y.taken y.ticks y.last) need way)
     (λ low c. goes_where A code v (at_point s p) (Joined th j l r t k) (left_ended j th y.last r y.taken (y.ticks + own)) c
-    (x.left_over v y.last r s1 s2 y.taken (y.ticks + own) y.is held is (le_of (y.ticks + own) th.memory.limit low)))
+    (x.left_over v y.last r s1 s2 y.taken (y.ticks + own) y.is held is (leb-true (y.ticks + own) th.memory.limit low)))
 pull_ends A EL ER w wl wr code ids d s j th x Starved s1 s2 l r t k a own need at held h = absurd h
 pull_ends A EL ER w wl wr code ids d s j th x (Trapped trap) s1 s2 l r t k a own need at held h =
     let p : Point = over ids (point s1) (waiting d (Trapped trap) (point s2)) in
@@ -248,7 +244,7 @@ right_ends A EL ER w wl wr code ids d s j th x (Value v) s2 base l r t k at held
     (right_ended j th l y.last t (k + y.ticks)) (within_same s th p (k + y.ticks) x.limit_is is.used)
     (right_stops code th j l r t k (Ended y.taken y.ticks y.last) way)
     (λ low c. goes_where A code v (at_point s p) (Joined th j l r t k) (right_ended j th l y.last t (k + y.ticks)) c
-    (x.right_over v l y.last base s2 t (k + y.ticks) held y.is is (le_of (k + y.ticks) th.memory.limit low)))
+    (x.right_over v l y.last base s2 t (k + y.ticks) held y.is is (leb-true (k + y.ticks) th.memory.limit low)))
 right_ends A EL ER w wl wr code ids d s j th x Starved s2 base l r t k at held h = absurd h
 right_ends A EL ER w wl wr code ids d s j th x (Trapped trap) s2 base l r t k at held h =
     let p : Point = over ids base (point s2) in

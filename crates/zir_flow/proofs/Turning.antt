@@ -1,5 +1,5 @@
 -- How the turns of stages follow one another.
-use Rattle.std.proofs.Common.{◌≡◌, ◌∙◌, ◌+◌, ℕ, zero, suc, List, ap, sym, subst, refl, arith, zero-add}
+use Rattle.std.proofs.Common.{◌≡◌, ◌∙◌, ◌+◌, ℕ, zero, suc, List, ap, refl, arith, zero-add}
 use Rattle.zir_flow.specs.declared.instruction.Instruction.{Instruction}
 use Rattle.zir_flow.specs.declared.instruction.Joint.{Joint}
 use Rattle.zir_flow.specs.Threads.{Thread}
