@@ -17,3 +17,9 @@ pub mod Within
 pub mod Repeating
 pub mod Counting
 pub mod Indexing
+pub mod Staying
+pub mod Turning
+pub mod Piping
+pub mod Merging
+pub mod Joining
+pub mod Composing
