@@ -297,7 +297,7 @@ opened size sl sr (Open m l r) h =
 
 -- a side knows as much of its ground
 side_solid : (a : Ground) (g : Scope) (shape : Shape) → Solid a g → Solid (side_of a shape) g
-side_solid a g shape x = record { functions = x.functions; assigned = x.assigned; small = x.small; entries = x.entries }
+side_solid a g shape x = record { functions = x.functions; assigned = x.assigned; small = x.small; proceeds = x.proceeds; entries = x.entries }
 
 -- where the code of a composition and of its sides stands
 record Parts (code : List Instruction) (place : ℕ) (j : Joint) (left right : List Instruction) : Type 0 where

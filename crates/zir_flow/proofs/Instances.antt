@@ -23,6 +23,7 @@ use Rattle.zir_laws.proofs.Functions.{evaluates-library}
 use Rattle.zir_shapes.specs.Shapes.{Shaped}
 use Rattle.zir_shapes.proofs.Fitting.{sizes-fit}
 use Rattle.zir_expr.specs.declared.frame.Spot.TheVariants.{Local}
+use Rattle.zir_expr.specs.declared.steps.Step.{Step}
 use Rattle.zir_expr.specs.Memory.{from_base, place_of}
 use Rattle.zir_expr.specs.Memory.Frames.{Memory}
 use Rattle.zir_expr.specs.Running.{go_all}
@@ -165,7 +166,7 @@ leaves_body a g i e place c calls locals m v s st lt q h order code r =
     let fit : d + n ≤ e.needs = subst (λ o. d + cells_for g (type_or_unit o) ≤ e.needs) h.value h.value_fits in
     let t : type_or_unit o ≡ r.value.is = ap type_or_unit r.value.has in
     let size : length (cells_of v) ≡ n = sizes-fit g.structs r.value.is v r.value.shape ∙ ap (cells_for g) (sym t) in
-    let steps = settling (Local d) 0 n in
+    let steps : List Step = settling (Local d) 0 n in
     let w = settles_down a.base d 0 e.needs n (cells_of v) r.th.memory (omega arith) (inl fit) big small size
     (subst (λ z. At (seen z).cells (from_base a.base d) (cells_of v)) r.alone r.value.cells) in
     let m' : Memory = w.memory in

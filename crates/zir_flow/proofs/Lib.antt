@@ -23,3 +23,4 @@ pub mod Piping
 pub mod Merging
 pub mod Joining
 pub mod Composing
+pub mod Assembling
