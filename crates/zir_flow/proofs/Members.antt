@@ -35,7 +35,7 @@ use Rattle.zir_code.specs.Coding.{settling}
 use Rattle.zir_code.specs.Holding.{At, Hold, InOrder, Outside, Spares, StandsAt}
 use Rattle.zir_code.specs.Statements.{with_local, initial_code}
 use Rattle.zir_code.specs.Fine.{InitialFits}
-use Rattle.zir_code.proofs.Kept.{low_place, Changed}
+use Rattle.zir_code.proofs.Kept.{low_place, Changed, kept_holds, holds_kept, kept_changed}
 use Rattle.zir_code.proofs.Blank.{no_change, blanks_go}
 use Rattle.zir_code.proofs.Stores.{hold_length, hold_front, hold_other, bound_holds}
 use Rattle.zir_flow.specs.declared.instruction.Instruction.{Instruction}
@@ -52,86 +52,34 @@ use Rattle.zir_flow.proofs.Reaching.{Reaches}
 use Rattle.zir_flow.proofs.Playing.{Arriving, Arrives, arrives_then, arrives_holds}
 use Rattle.zir_flow.proofs.Standing.{Ground, Covers, Stands, HoldsKept, watched, Arrived, Solid, ComponentArrives}
 use Rattle.zir_flow.proofs.Straight.{code_front, code_back, code_next, code_ends, spares_none, spares_then, spares_kept, spares_changed, place_fits, stands_changed, steps_arrive, settled_arrives, covers_left, covers_right}
+use Rattle.zir_flow.proofs.Within.{Within, within_more, within_local, stands_left, inner_arrives}
 use Rattle.zir_flow.proofs.Settling.{Settled, settles_down, Ran, some_run}
 
--- LARGER SCOPES
+-- BETWEEN MEMBERS
 
 -- a scope with other names
 abbrev pub with_names : Scope → List Holder → Scope
 with_names g ls = record g { locals = ls }
-
--- variables that stand at an index or behind it
-abbrev pub AllFrom : ℕ → ℕ → List Holder → Type 0
-AllFrom base low [] = Unit {0}
-AllFrom base low (d ∷ ds) = (low ≤ place_of base d.spot) × AllFrom base low ds
-
--- names with others behind them, which stand at an index or behind it
-pub record Longer (base low : ℕ) (before ls : List Holder) : Type 0 where
-  pub names : List Holder
-  pub is : ls ≡ before ++ names
-  pub from : AllFrom base low names
-
-outside_more : (base low i : ℕ) (ds names : List Holder) → i < low → AllFrom base low names → Outside base ds i → Outside base (ds ++ names) i
-outside_more base low i [] [] lt f o = tt
-outside_more base low i [] (d ∷ names) lt f o = (inl (let le = f.0 in omega arith), outside_more base low i [] names lt f.1 tt)
-outside_more base low i (d ∷ ds) names lt f o = (o.0, outside_more base low i ds names lt f o.1)
-
--- cells that belong to no name of the larger scope belong to none of the smaller
-pub spares_smaller : (top base d d' : ℕ) (g : Scope) (ls : List Holder) (m m' : Memory) → d ≤ d' → Longer base (base + d) g.locals ls →
-    Spares top base d' (with_names g ls) m m' → Spares top base d g m m'
-spares_smaller top base d d' g ls m m' le w p i a b o =
-    p i a (omega arith) (subst (λ ds. Outside base ds i) (sym w.is) (outside_more base (base + d) i g.locals w.names b w.from o))
-
--- the first of the names of a store
-front_held : (structs : List StructDef) (cells : List ℤ) (base low : ℕ) (before ls : List Holder) (slots : List Slot) → Longer base low before ls →
-    Hold structs cells base ls (take (length ls) slots) → Hold structs cells base before (take (length before) slots)
-front_held structs cells base low before ls slots w h =
-    let n : length (before ++ w.names) ≡ length before + length w.names = length-append before w.names in
-    let e : take (length before) (take (length (before ++ w.names)) slots) ≡ take (length before) slots =
-    take-take (length before) (length (before ++ w.names)) slots (omega arith) in
-    subst (Hold structs cells base before) e
-    (hold_front structs cells base before w.names (take (length (before ++ w.names)) slots)
-    (subst (λ ds. Hold structs cells base ds (take (length ds) slots)) w.is h))
-
--- what is seen in a larger scope since a later memory is seen in the smaller
-pub kept_smaller : (a : Ground) (g : Scope) (ls : List Holder) (d d' : ℕ) (m m1 : Memory) (st : Stage) (store : Store) → d ≤ d' →
-    Longer a.base (a.base + d) g.locals ls → Spares a.top a.base d g m m1 → HoldsKept a (with_names g ls) d' m1 st store → HoldsKept a g d m st store
-kept_smaller a g ls d d' m m1 st store le w p h = record {
-  held = record {
-    tops = h.held.tops;
-    locals = front_held g.structs (seen st).cells a.base (a.base + d) g.locals ls store.locals w h.held.locals;
-    size_is = h.held.size_is;
-    room = h.held.room;
-  };
-  spared = spares_then a.top a.base d g m m1 (seen st) p (spares_smaller a.top a.base d d' g ls m1 (seen st) le w h.spared);
-}
 
 -- what is known of the ground in one scope is known in the other
 pub solid_names : (a : Ground) (g : Scope) (ls : List Holder) → Solid a g → Solid a (with_names g ls)
 solid_names a g ls s =
     record { functions = s.functions; assigned = s.assigned; small = s.small; proceeds = s.proceeds; entries = s.entries }
 
-all_and : (base low : ℕ) (ds : List Holder) (d : Holder) → AllFrom base low ds → low ≤ place_of base d.spot → AllFrom base low (ds ++ d ∷ [])
-all_and base low [] d f le = (le, tt)
-all_and base low (e ∷ ds) d f le = (f.0, all_and base low ds d f.1 le)
-
--- one more name
-longer_and : (base low : ℕ) (before ls : List Holder) (d : Holder) → Longer base low before ls → low ≤ place_of base d.spot →
-    Longer base low before (ls ++ d ∷ [])
-longer_and base low before ls d w le = record {
-  names = w.names ++ d ∷ [];
-  is = ap (λ ds. ds ++ d ∷ []) w.is ∙ append_assoc before w.names (d ∷ []);
-  from = all_and base low w.names d w.from le;
+-- a scope inside another one, which is inside a third
+within_then : (a : Ground) (g g' g'' : Scope) (d d' d'' : ℕ) → Within a g g' d d' → Within a g' g'' d' d'' → Within a g g'' d d''
+within_then a g g' g'' d d' d'' x y = record {
+  structs = y.structs ∙ x.structs;
+  spares = λ m m' p. x.spares m m' (y.spares m m' p);
+  stores = λ st store h. x.stores st store (y.stores st store h);
 }
-
--- BETWEEN MEMBERS
 
 -- where a member begins of a block that began with cells from begin on free, since that memory: the names in scope, the first free cell, where the value of
 -- the member before stands, and its type
 pub record Between (a : Ground) (g : Scope) (begin : ℕ) (m : Memory) (ls : List Holder) (d at : ℕ) (ty : Ty) (last : Option Ty) (v : Val) (place : ℕ)
     (th : Thread) (room : Room) (s : State) : Type 0 where
   pub stands : Stands a (with_names g ls) d place th room s
-  pub longer : Longer a.base (a.base + begin) g.locals ls
+  pub within : Within a g (with_names g ls) begin d
   pub spared : Spares a.top a.base begin g m th.memory
   pub order : InOrder a.base a.base (a.base + begin) g.locals
   pub low : begin ≤ d
@@ -158,51 +106,35 @@ type_found o t e = ap type_or_unit e
 -- the end of a block
 pub ends_block : (a : Ground) → MembersArrive a end_of-Member
 ends_block a g input out begin d at m ls ty last v place th room s solid f c deep cover b =
-    let h = b.stands in
-    let held = h.held in
     let n : ℕ = cells_for g ty in
-    let apart : a.top ≤ a.base = held.apart in
-    let big : a.base + a.n ≤ length th.memory.cells = held.room in
-    let small : length th.memory.cells < 2 ^ 63 = held.small in
+    let h : Stands a g begin place th room (leave (length g.locals) s) =
+    stands_left a g (with_names g ls) begin d place th room s b.within b.stands.held.tops_in b.order b.stands in
+    let held = h.held in
     let lt : length a.code < 2 ^ 32 = solid.small in
     let code : List Instruction = run_some (settling (Local at) begin n) in
     let within : place + length code ≤ length a.code = code_ends a.code place code c in
     let t : ty ≡ b.value.is = b.type_is ∙ type_found last b.value.is b.value.has in
     let size : length (cells_of v) ≡ n = sizes-fit g.structs b.value.is v b.value.shape ∙ ap (cells_for g) (sym t) in
-    let w = settles_down a.base at begin a.n n (cells_of v) th.memory b.low_at b.fits big small size b.value.cells in
+    let w = settles_down a.base at begin a.n n (cells_of v) th.memory b.low_at b.fits held.room held.small size b.value.cells in
     let m' : Memory = w.memory in
     let c' : Changed (a.base + begin) (a.base + begin + n) th.memory m' = w.so.changed in
     let r : Ran a.code (place + length code) th room m' =
     some_run a.code place (settling (Local at) begin n) th room m' c h.place_is (omega arith)
     (ap (λ i. go_all (settling (Local at) begin n) i th.memory) h.base_is ∙ w.is) in
-    let th' : Thread = record th { place = r.at; memory = m' } in
-    let long : length m'.cells ≡ length th.memory.cells = c'.size in
-    (Alone th' room, r.reaches, record {
-      th = th';
+    (Alone (record th { place = r.at; memory = m' }) room, r.reaches, record {
+      th = record th { place = r.at; memory = m' };
       room = room;
       alone = refl;
       stands = record {
-        held = record {
-          tops = hold_other g.structs a.base 0 a.top (a.base + begin) (a.base + begin + n) th.memory m' g.tops s.store.tops c' (inl (omega arith))
-              held.tops_in held.tops;
-          locals = hold_other g.structs a.base a.base (a.base + begin) (a.base + begin) (a.base + begin + n) th.memory m' g.locals
-              (take (length g.locals) s.store.locals) c' (inl (omega arith)) b.order
-              (hold_front g.structs th.memory.cells a.base g.locals b.longer.names s.store.locals
-              (subst (λ ds. Hold g.structs th.memory.cells a.base ds s.store.locals) b.longer.is held.locals));
-          tops_in = held.tops_in;
-          locals_in = b.order;
-          used = c'.used ∙ held.used;
-          limit = c'.limit ∙ held.limit;
-          apart = apart;
-          room = omega arith;
-          small = omega arith;
-        };
+        held = kept_holds a.top a.base begin begin a.n g th.memory m' (leave (length g.locals) s) (leave (length g.locals) s) (omega arith) held
+            (kept_changed a.top a.base begin (a.base + begin) (a.base + begin + n) g th.memory th.memory m' (leave (length g.locals) s)
+            (leave (length g.locals) s) held.apart (omega arith) (holds_kept a.top a.base begin begin a.n g th.memory (leave (length g.locals) s) held) c');
         place_is = r.is;
         base_is = h.base_is;
         calls_are = h.calls_are;
         deep_is = h.deep_is;
         taken = h.taken;
-        size_is = long ∙ h.size_is;
+        size_is = c'.size ∙ h.size_is;
         room_fits = h.room_fits;
       };
       value = record { is = b.value.is; has = b.value.has; shape = b.value.shape; cells = w.so.cells };
@@ -223,9 +155,8 @@ member_then a g input out begin d at m ls ty last v place th room s c B next hc 
     let g' : Scope = with_names g ls in
     let A : Arriving = Arrived a g' d (value_in a.st g' input d c) (place + length (flow_code a.st g' input d c)) th.memory in
     arrives_then A B (watched a g begin input out m) a.code (proc (around a.core) a.procs c s) (Alone th room) next
-    (arrives_holds A A (watched a g' d input out th.memory) (watched a g begin input out m) a.code (proc (around a.core) a.procs c s) (Alone th room)
-    (λ v' s' st z. z) (λ st store z. kept_smaller a g ls begin d m th.memory st store b.low b.longer b.spared z) (λ x z. z) (λ x z. z)
-    (hc g' input out d place th room s (solid_names a g ls solid) f.0 code deep cover b.stands))
+    (inner_arrives A a g g' input out begin d place m c th room s hc b.within (solid_names a g ls solid) f.0 code deep cover b.stands b.spared
+    (λ v' s' st r. r))
     (λ v' s' st r. subst (λ z. Arrives B (watched a g begin input out m) a.code (next v' s') z) (sym r.alone)
     (k v' s' r.th r.room r.stands (record {
       is = r.value.is;
@@ -233,16 +164,16 @@ member_then a g input out begin d at m ls ty last v place th room s c B next hc 
       shape = r.value.shape;
       cells = subst (λ z. At (seen z).cells (from_base a.base d) (cells_of v')) r.alone r.value.cells;
     })
-    (spares_then a.top a.base begin g m th.memory r.th.memory b.spared (spares_smaller a.top a.base begin d g ls th.memory r.th.memory b.low b.longer r.spared))))
+    (spares_then a.top a.base begin g m th.memory r.th.memory b.spared (b.within.spares th.memory r.th.memory r.spared))))
 
 -- the value of a component comes into scope
 bound_between : (a : Ground) (g : Scope) (begin d : ℕ) (m : Memory) (ls : List Holder) (id : ℕ) (o : Option Ty) (v : Val) (place : ℕ) (th : Thread)
-    (room : Room) (s : State) → Longer a.base (a.base + begin) g.locals ls → InOrder a.base a.base (a.base + begin) g.locals → begin ≤ d →
+    (room : Room) (s : State) → Within a g (with_names g ls) begin d → InOrder a.base a.base (a.base + begin) g.locals → begin ≤ d →
     d + cells_for g (type_or_unit o) ≤ a.n → Stands a (with_names g ls) d place th room s → ValueStands g o (from_base a.base d) v (Alone th room) →
     Spares a.top a.base begin g m th.memory →
     Between a g begin m (with_local (with_names g ls) d id (type_or_unit o)).locals (d + cells_for g (type_or_unit o)) d (type_or_unit o)
     (Some (type_or_unit o)) v place th room (bind id v s)
-bound_between a g begin d m ls id o v place th room s longer order low fits h x spared =
+bound_between a g begin d m ls id o v place th room s within order low fits h x spared =
     let u : Ty = type_or_unit o in
     let big : a.base + a.n ≤ length th.memory.cells = h.held.room in
     let small : length th.memory.cells < 2 ^ 63 = h.held.small in
@@ -260,7 +191,8 @@ bound_between a g begin d m ls id o v place th room s longer order low fits h x 
         size_is = h.size_is;
         room_fits = h.room_fits;
       };
-      longer = longer_and a.base (a.base + begin) g.locals ls (record { id = id; spot = Local d; cells = cells_for g u; ty = u }) longer (omega arith);
+      within = within_then a g (with_names g ls) (with_local (with_names g ls) d id u) begin d (d + cells_for g u) within
+          (within_local a (with_names g ls) d (d + cells_for g u) d id u (omega arith) (omega arith) (omega arith));
       spared = spared;
       order = order;
       low = omega arith;
@@ -296,7 +228,7 @@ binds_member a name c ms hc hms g input out begin d at m ls ty last v place th r
     (λ v' s' th' room' h x spared.
     hms g input out begin (d + cells_for g u) d m ls' u (Some u) v' (place + length first) th' room' (bind name.id v' s') solid f.2
     (code_back a.code place first rest code) (omega arith) (covers_right a.shape _ _ cover)
-    (bound_between a g begin d m ls name.id o v' (place + length first) th' room' s' b.longer b.order b.low f.1 h x spared)))
+    (bound_between a g begin d m ls name.id o v' (place + length first) th' room' s' b.within b.order b.low f.1 h x spared)))
 
 -- a member that runs
 pub runs_member : {k : _} (a : Ground) (c : Comp) (ms : Row_of-Member k) → ComponentArrives a c → MembersArrive a ms →
@@ -316,7 +248,7 @@ runs_member a c ms hc hms g input out begin d at m ls ty last v place th room s 
     (covers_right a.shape _ _ cover)
     (record {
       stands = h;
-      longer = b.longer;
+      within = b.within;
       spared = spared;
       order = b.order;
       low = b.low;
@@ -370,13 +302,13 @@ declares_member a var ms hms g input out begin d at m ls ty last v place th room
     (initial_arrives (Arrived a g begin value end m) (watched a g begin input out m) a g' d place var.ty var.initial rest th room s
     (λ w s'. members_proc (around a.core) a.procs ms (length g.locals) UnitVal (bind var.name.id w s')) (solid_names a g ls solid) f.0 f.1 f.2 code b.stands
     (λ w s' m1 st kept h.
-    let x = bound_between a g begin d m ls var.name.id (Some u) w (place + 1) (next_with th m1) room s' b.longer b.order b.low f.1 h
+    let x = bound_between a g begin d m ls var.name.id (Some u) w (place + 1) (next_with th m1) room s' b.within b.order b.low f.1 h
     (record { is = u; has = refl; shape = st.shape; cells = st.cells })
-    (spares_then a.top a.base begin g m th.memory m1 b.spared (spares_smaller a.top a.base begin d g ls th.memory m1 b.low b.longer kept)) in
+    (spares_then a.top a.base begin g m th.memory m1 b.spared (b.within.spares th.memory m1 kept)) in
     hms g input out begin (d + cells_for g u) begin m ls' (plain UnitTy) (Some (plain UnitTy)) UnitVal (place + 1) (next_with th m1) room
     (bind var.name.id w s') solid f.3 (code_next a.code place _ rest code) deep cover (record {
       stands = x.stands;
-      longer = x.longer;
+      within = x.within;
       spared = x.spared;
       order = b.order;
       low = x.low;
@@ -404,7 +336,7 @@ block_arrives a ms hms g input out d place th room s solid f c deep cover h =
     (members_proc (around a.core) a.procs ms k UnitVal s) (Alone th room)) (sym n)
     (hms g input out d d d th.memory g.locals (plain UnitTy) (Some (plain UnitTy)) UnitVal place th room s solid f c deep cover (record {
       stands = h;
-      longer = record { names = []; is = sym (append-nil g.locals); from = tt };
+      within = within_more a g d d (omega arith);
       spared = spares_none a.top a.base d g th.memory;
       order = h.held.locals_in;
       low = omega arith;
