@@ -23,4 +23,5 @@ pub mod Piping
 pub mod Merging
 pub mod Joining
 pub mod Composing
+pub mod Doing
 pub mod Assembling
