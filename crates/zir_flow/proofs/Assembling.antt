@@ -1,5 +1,5 @@
 -- Every component arrives, by its form, and so its code plays what it does.
-use Rattle.std.specs.Prelude.{ℕ, ◌+◌, ◌<◌, ◌^◌, List, [], ◌∷◌, ◌++◌, Option, Some, ◌≡◌, refl, length, slice_get}
+use Rattle.std.specs.Prelude.{ℕ, ◌+◌, List, [], ◌∷◌, ◌≡◌, refl, length, slice_get}
 use Rattle.std.proofs.Common.{ap, ◌∙◌, sym, subst}
 use Rattle.zir_tree.specs.declared.place.Place.{Place}
 use Rattle.zir_tree.specs.declared.value.Val.{Val}

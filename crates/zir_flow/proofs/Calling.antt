@@ -1,11 +1,11 @@
 -- A call of an instance arrives, where the instance's code does what the instance does.
-use Rattle.std.specs.Prelude.{ℕ, suc, ◌+◌, ◌<◌, ◌≤◌, ◌%◌, ◌^◌, max, List, [], ◌∷◌, ◌++◌, Bool, true, false, Option, Some, ◌≡◌, refl, length, nat_lt, slice_get, take}
+use Rattle.std.specs.Prelude.{ℕ, suc, ◌+◌, ◌<◌, ◌≤◌, ◌^◌, max, List, [], ◌∷◌, ◌++◌, Bool, true, false, Option, Some, ◌≡◌, refl, length, nat_lt, slice_get, take}
 use Rattle.std.proofs.Common.{ap, ◌∙◌, sym, subst, arith}
 use Rattle.zir_tree.specs.declared.value.Val.{Val, List as Vals}
 use Rattle.zir_tree.specs.declared.ident.Ident.{Ident}
 use Rattle.zir_tree.specs.declared.types.Ty.{Ty}
 use Rattle.zir_tree.specs.declared.expr.Expr.{Expr}
-use Rattle.zir_tree.specs.declared.comp.Comp.{Comp, Call}
+use Rattle.zir_tree.specs.declared.comp.Comp.{Call}
 use Rattle.zir_tree.specs.declared.program.Core.{Core}
 use Rattle.zir_meaning.specs.Values.{parts}
 use Rattle.zir_meaning.specs.Store.{Store}
@@ -19,7 +19,7 @@ use Rattle.zir_laws.proofs.Expressions.{evaluates-list}
 use Rattle.zir_laws.proofs.Functions.{evaluates-library}
 use Rattle.zir_shapes.specs.Shapes.{Shaped}
 use Rattle.zir_shapes.proofs.PartCells.{parts-list}
-use Rattle.zir_expr.specs.Memory.{Done, then_run, after, from_base}
+use Rattle.zir_expr.specs.Memory.{after, from_base}
 use Rattle.zir_expr.specs.Memory.Frames.{Memory}
 use Rattle.zir_expr.specs.Running.{go_all}
 use Rattle.zir_code.specs.Scopes.{Scope}
@@ -28,25 +28,23 @@ use Rattle.zir_code.specs.Coding.{code_of_all}
 use Rattle.zir_code.specs.Peaks.{peak_of_all}
 use Rattle.zir_code.specs.Typing.{AllFit}
 use Rattle.zir_code.specs.Holding.{At, Hold, Holds, Spares, Kept, Ends as EndsAs}
-use Rattle.zir_code.specs.Calls.{CellsAre, Calls}
-use Rattle.zir_code.proofs.Agreeing.{then-done, ends_more}
+use Rattle.zir_code.specs.Calls.{CellsAre}
+use Rattle.zir_code.proofs.Agreeing.{then-done}
 use Rattle.zir_code.proofs.Kept.{low_place, same_hold, holds_kept}
 use Rattle.zir_code.proofs.Calls.{a_tick, tops_hold, tops_order}
 use Rattle.zir_code.proofs.Calling.{arguments_agree}
 use Rattle.zir_flow.specs.declared.instruction.Caller.{Caller}
 use Rattle.zir_flow.specs.declared.instruction.Instruction.{Instruction}
 use Rattle.zir_flow.specs.declared.instruction.Instruction.TheVariants.{Run, Tick, Enter}
-use Rattle.zir_flow.specs.Threads.{Thread, Goes, enter_if, moved_by, next_with}
+use Rattle.zir_flow.specs.Threads.{Thread, enter_if, next_with}
 use Rattle.zir_flow.specs.Stages.{Stage, Alone, Room, seen}
 use Rattle.zir_flow.specs.Kinds.{Entry, valued}
 use Rattle.zir_flow.specs.Flowing.{enter_code}
 use Rattle.zir_flow.specs.Fitting.{EmitsFit, entry_depth, entry_shape}
-use Rattle.zir_flow.specs.Playing.{Watch}
 use Rattle.zir_flow.specs.Program.{CodeAt}
-use Rattle.zir_flow.proofs.Reaching.{Reaches}
-use Rattle.zir_flow.proofs.Playing.{Arriving, Arrives, arrives_on, arrives_holds}
-use Rattle.zir_flow.proofs.Standing.{Ground, Covers, Stands, HoldsKept, watched, Arrived, SameBelow, HoldsCalled, watched_call, Returned, Enters, EntryPlays, moved_to, Solid, ComponentArrives}
-use Rattle.zir_flow.proofs.Straight.{code_here, code_next, code_ends, next_place, goes_to, spares_then, spares_kept, locals_all, straight_arrives, expressions_agree, ticked_memory, ticked_state, ticked_thread, tick_arrives}
+use Rattle.zir_flow.proofs.Playing.{Arrives, arrives_on, arrives_holds}
+use Rattle.zir_flow.proofs.Standing.{Ground, Covers, Stands, HoldsKept, watched, Arrived, SameBelow, HoldsCalled, watched_call, Returned, moved_to, Solid, ComponentArrives}
+use Rattle.zir_flow.proofs.Straight.{code_here, code_next, code_ends, goes_to, spares_kept, locals_all, straight_arrives, expressions_agree, ticked_state, ticked_thread, tick_arrives}
 
 -- ARGUMENTS
 

@@ -1,5 +1,5 @@
 -- A choice between two components arrives.
-use Rattle.std.specs.Prelude.{ℕ, suc, ◌+◌, ◌<◌, ◌≤◌, ◌^◌, max, List, [], ◌∷◌, ◌++◌, Bool, true, false, Option, Some, ◌≡◌, refl, length, slice_get}
+use Rattle.std.specs.Prelude.{ℕ, suc, ◌+◌, ◌<◌, ◌≤◌, ◌^◌, List, ◌∷◌, ◌++◌, Bool, true, false, Option, Some, ◌≡◌, refl, length, slice_get}
 use Rattle.std.proofs.Common.{ap, ◌∙◌, sym, subst, arith, length-append, inl, inr}
 use Rattle.zir_tree.specs.declared.place.Place.{Place}
 use Rattle.zir_tree.specs.declared.value.Val.{Val}
@@ -22,17 +22,16 @@ use Rattle.zir_code.specs.Coding.{stands}
 use Rattle.zir_code.specs.Holding.{At, Spares, StandsAt}
 use Rattle.zir_code.proofs.Operating.{IsCell, is_set_cell, cell_from}
 use Rattle.zir_flow.specs.declared.instruction.Instruction.{Instruction}
-use Rattle.zir_flow.specs.declared.instruction.Instruction.TheVariants.{Run, Ahead, Branch}
+use Rattle.zir_flow.specs.declared.instruction.Instruction.TheVariants.{Ahead, Branch}
 use Rattle.zir_flow.specs.Threads.{Thread, Goes, either_move, goes_if, moved_by, onward, next_with}
 use Rattle.zir_flow.specs.Stages.{Stage, Alone, Room, seen}
 use Rattle.zir_flow.specs.Kinds.{value_in}
 use Rattle.zir_flow.specs.Flowing.{flow_code}
-use Rattle.zir_flow.specs.Fitting.{Flows, depth_of, shape_of}
 use Rattle.zir_flow.specs.Playing.{Watch}
 use Rattle.zir_flow.specs.Program.{CodeAt}
 use Rattle.zir_flow.proofs.Reaching.{Reaches, stays}
 use Rattle.zir_flow.proofs.Playing.{Arriving, Arrives, arrives_on}
-use Rattle.zir_flow.proofs.Standing.{Ground, Stands, Arrived, watched, Solid, ComponentArrives}
+use Rattle.zir_flow.proofs.Standing.{Ground, Stands, Arrived, watched, ComponentArrives}
 use Rattle.zir_flow.proofs.Straight.{code_here, code_front, code_back, code_next, code_ends, onward_place, next_place, goes_to, spares_then, spares_kept, stands_moved, expression_arrives, covers_left, covers_right}
 use Rattle.zir_flow.proofs.Further.{GoesOn, watched_since}
 

@@ -3,7 +3,6 @@ use Rattle.std.proofs.Common.{◌≡◌, ℕ, ◌+◌, ◌<◌, ◌≤◌, ◌^�
 use Rattle.std.proofs.lemmas.Bool.{eqb-true}
 use Rattle.zir_tree.specs.declared.value.Val.{Val, Unit as UnitVal}
 use Rattle.zir_tree.specs.declared.place.Place.{Place}
-use Rattle.zir_tree.specs.declared.types.Base.TheVariants.{Unit as UnitTy}
 use Rattle.zir_tree.specs.declared.types.Ty.{Ty}
 use Rattle.zir_tree.specs.declared.types.StructDef.{StructDef}
 use Rattle.zir_tree.specs.declared.ends.End.TheVariants.{Value}
@@ -26,12 +25,11 @@ use Rattle.zir_laws.specs.Process.{Proc, Ends, with_proc}
 use Rattle.zir_laws.proofs.Evaluating.{EvalKeeps}
 use Rattle.zir_laws.proofs.Functions.{evaluates-library}
 use Rattle.zir_laws.proofs.Statements.{evaluates-body}
-use Rattle.zir_shapes.specs.Offsets.{plain_type as plain}
 use Rattle.zir_shapes.proofs.Fitting.{sizes-fit}
 use Rattle.zir_expr.specs.declared.frame.Spot.{Spot}
 use Rattle.zir_expr.specs.declared.frame.Spot.TheVariants.{Top, Local}
 use Rattle.zir_expr.specs.declared.steps.Step.{Step}
-use Rattle.zir_expr.specs.Memory.{Ran, Done, Trapped, Out, then_run, moved, from_base, place_of}
+use Rattle.zir_expr.specs.Memory.{Ran, Done, Trapped, Out, moved, from_base, place_of}
 use Rattle.zir_expr.specs.Memory.Frames.{Memory}
 use Rattle.zir_expr.specs.Running.{go_all}
 use Rattle.zir_code.specs.declared.scope.Holder.{Holder}
@@ -39,11 +37,11 @@ use Rattle.zir_code.specs.Scopes.{Scope, found_among, variable, shifted}
 use Rattle.zir_code.specs.Types.{type_in, part_offset, cells_for, size_in}
 use Rattle.zir_code.specs.Coding.{spot_of, shift_if, fixed, read_at, stands, code_of, moving, settling}
 use Rattle.zir_code.specs.Peaks.{peak_of}
-use Rattle.zir_code.specs.Typing.{HolderFits, Has}
-use Rattle.zir_code.specs.Holding.{At, Hold, InOrder, Holds, Spares, Kept, StandsAt, Ends as EndsAs, Agrees}
+use Rattle.zir_code.specs.Typing.{Has}
+use Rattle.zir_code.specs.Holding.{At, Hold, InOrder, Holds, Spares, Kept, StandsAt, Ends as EndsAs}
 use Rattle.zir_code.specs.Calls.{Calls}
-use Rattle.zir_code.specs.Statements.{with_local, scope_after, free_after}
-use Rattle.zir_code.specs.Fine.{Fits, Fine, Went, Stopped, AgreesStmt}
+use Rattle.zir_code.specs.Statements.{scope_after, free_after}
+use Rattle.zir_code.specs.Fine.{Fine, Went, Stopped}
 use Rattle.zir_code.specs.Bodies.{all_code, scope_after_all, free_after_all, FineAll}
 use Rattle.zir_code.specs.Laws.{StatementsSpare}
 use Rattle.zir_code.proofs.Agreeing.{go_all-append, ends_then, ends_more}
@@ -57,17 +55,16 @@ use Rattle.zir_code.proofs.Places.{fixed_found, part_stands, inside_ends, placed
 use Rattle.zir_code.proofs.Room.{value_room}
 use Rattle.zir_code.proofs.Stores.{hold_length, hold_front, hold_other}
 use Rattle.zir_code.proofs.TypesFound.{types_are_found}
-use Rattle.zir_flow.specs.declared.instruction.Instruction.{Instruction}
 use Rattle.zir_flow.specs.declared.instruction.Instruction.TheVariants.{Run, Tick}
 use Rattle.zir_flow.specs.Threads.{Thread, next_with}
-use Rattle.zir_flow.specs.Stages.{Alone, Room}
+use Rattle.zir_flow.specs.Stages.{Alone}
 use Rattle.zir_flow.specs.Kinds.{returned_type, body_type}
 use Rattle.zir_flow.specs.Flowing.{returned_code, do_code}
 use Rattle.zir_flow.specs.Fitting.{ReturnFits, DoFits}
 use Rattle.zir_flow.specs.Playing.{Watch}
 use Rattle.zir_flow.specs.Program.{CodeAt}
 use Rattle.zir_flow.proofs.Playing.{Arriving}
-use Rattle.zir_flow.proofs.Standing.{Ground, Stands, watched, Arrived, Solid, ComponentArrives}
+use Rattle.zir_flow.proofs.Standing.{Ground, Stands, watched, Arrived, ComponentArrives}
 use Rattle.zir_flow.proofs.Straight.{code_here, code_next, place_fits, stands_next, arrived, ends_at, run_arrives, ran_ends, RanArrives, expressions_agree, size_found, ticked_state, ticked_thread, tick_arrives}
 
 -- CELLS ON ONE SIDE OF AN INDEX

@@ -1,5 +1,5 @@
 -- Stages that arrive and go on, and what is watched of them since an earlier memory.
-use Rattle.std.proofs.Common.{◌≡◌, ℕ, ◌≤◌, List, ap, sym, subst, refl, arith}
+use Rattle.std.proofs.Common.{ℕ, List}
 use Rattle.zir_tree.specs.declared.value.Val.{Val}
 use Rattle.zir_tree.specs.declared.ends.End.{End}
 use Rattle.zir_tree.specs.declared.ends.End.TheVariants.{Value, Starved, Trap as Trapped, Spent}

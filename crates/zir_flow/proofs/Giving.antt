@@ -1,5 +1,5 @@
 -- Components that give outputs, and one that ends with the value of an expression.
-use Rattle.std.proofs.Common.{◌≡◌, ℕ, zero, suc, ◌+◌, ◌%◌, ◌^◌, ◌<◌, ◌≤◌, ℤ, List, [], ◌∷◌, ◌++◌, Some, length, slice_get, ap, sym, subst, refl, ◌∙◌, arith}
+use Rattle.std.proofs.Common.{◌≡◌, ℕ, suc, ◌+◌, ◌^◌, ◌<◌, ℤ, List, [], ◌∷◌, ◌++◌, Some, length, slice_get, ap, sym, subst, refl, ◌∙◌, arith}
 use Rattle.zir_tree.specs.declared.value.Val.{Val, Unit as UnitVal}
 use Rattle.zir_tree.specs.declared.place.Place.{Place}
 use Rattle.zir_tree.specs.declared.types.Base.TheVariants.{Unit as UnitTy}
@@ -10,11 +10,10 @@ use Rattle.zir_tree.specs.declared.comp.Comp.{Emit, Return}
 use Rattle.zir_meaning.specs.Trace.{State, point}
 use Rattle.zir_cells.specs.Cells.{cells_of}
 use Rattle.zir_laws.specs.Process.{Proc, Gives, Ends, tick_proc, outputs_proc, returns_proc}
-use Rattle.zir_shapes.specs.Shapes.{Shaped}
 use Rattle.zir_shapes.specs.Offsets.{plain_type as plain}
 use Rattle.zir_shapes.proofs.Fitting.{sizes-fit}
 use Rattle.zir_expr.specs.declared.frame.Spot.{Spot}
-use Rattle.zir_expr.specs.Memory.{cell_at, after, from_base, place_of}
+use Rattle.zir_expr.specs.Memory.{after, from_base, place_of}
 use Rattle.zir_expr.specs.Memory.Frames.{Memory}
 use Rattle.zir_code.specs.Scopes.{Scope}
 use Rattle.zir_code.specs.Types.{type_in, cells_for, size_in}
@@ -30,8 +29,8 @@ use Rattle.zir_flow.specs.Playing.{Watch, Comes}
 use Rattle.zir_flow.specs.Program.{CodeAt}
 use Rattle.zir_flow.proofs.Reaching.{comes_next}
 use Rattle.zir_flow.proofs.Playing.{Arriving, Arrives}
-use Rattle.zir_flow.proofs.Standing.{Ground, Stands, HoldsKept, watched, Arrived, Solid, ComponentArrives}
-use Rattle.zir_flow.proofs.Straight.{code_here, code_next, next_place, turn_at, spares_then, spares_kept, place_fits, stands_moved, held_since, arrived, ends_at, ticked_state, ticked_thread, tick_arrives, size_found, expression_arrives, settled_arrives}
+use Rattle.zir_flow.proofs.Standing.{Ground, Stands, watched, Arrived, ComponentArrives}
+use Rattle.zir_flow.proofs.Straight.{code_here, code_next, next_place, turn_at, spares_kept, place_fits, stands_moved, held_since, arrived, ends_at, ticked_state, ticked_thread, tick_arrives, size_found, expression_arrives, settled_arrives}
 
 -- the cells of a value that stands somewhere
 pub cells_found : (i : ℕ) (m : Memory) (xs : List ℤ) → length m.cells < 2 ^ 63 → At m.cells i xs → cells_from (length xs) i m ≡ xs

@@ -1,6 +1,6 @@
 -- The instances of a program: the code of each does what the instance does, over those before it.
-use Rattle.std.specs.Prelude.{ℕ, suc, ℤ, ◌+◌, ◌<◌, ◌≤◌, ◌^◌, List, [], ◌∷◌, ◌++◌, Bool, true, false, Option, Some, None, ◌≡◌, refl, length, map, nat_eq, slice_get}
-use Rattle.std.proofs.Common.{ap, ◌∙◌, sym, subst, arith, inl, inr, length-append}
+use Rattle.std.specs.Prelude.{ℕ, suc, ◌+◌, ◌<◌, ◌≤◌, ◌^◌, List, [], ◌∷◌, ◌++◌, Bool, true, false, Option, Some, None, ◌≡◌, refl, length, nat_eq, slice_get}
+use Rattle.std.proofs.Common.{ap, ◌∙◌, sym, subst, arith, inl, length-append}
 use Rattle.zir_tree.specs.declared.value.Val.{Val}
 use Rattle.zir_tree.specs.declared.value.Slot.{Slot}
 use Rattle.zir_tree.specs.declared.ends.End.{End}
@@ -8,12 +8,11 @@ use Rattle.zir_tree.specs.declared.ends.End.TheVariants.{Value, Starved, Trap as
 use Rattle.zir_tree.specs.declared.types.Ty.{Ty}
 use Rattle.zir_tree.specs.declared.types.StructDef.{StructDef}
 use Rattle.zir_tree.specs.declared.comp.Comp.{Comp}
-use Rattle.zir_tree.specs.declared.program.Core.{Core}
 use Rattle.zir_tree.specs.declared.program.Instance.{Instance}
 use Rattle.zir_meaning.specs.Store.{Store}
-use Rattle.zir_meaning.specs.Trace.{State, point}
+use Rattle.zir_meaning.specs.Trace.{State}
 use Rattle.zir_meaning.specs.Functions.{entered, back, pick}
-use Rattle.zir_meaning.specs.Instances.{last_seen, around}
+use Rattle.zir_meaning.specs.Instances.{around}
 use Rattle.zir_cells.specs.Cells.{cells_of}
 use Rattle.zir_laws.specs.Process.{Proc, Gives, Ends, Needs, Procs, proc}
 use Rattle.zir_laws.specs.Acts.{seen_proc, called_proc, no_procs, one_more_proc, more_procs, calls_of}
@@ -31,7 +30,7 @@ use Rattle.zir_code.specs.declared.scope.Holder.{Holder}
 use Rattle.zir_code.specs.Scopes.{Scope}
 use Rattle.zir_code.specs.Types.{type_or_unit, cells_for}
 use Rattle.zir_code.specs.Coding.{settling}
-use Rattle.zir_code.specs.Holding.{At, Hold, InOrder, Outside}
+use Rattle.zir_code.specs.Holding.{At, InOrder, Outside}
 use Rattle.zir_code.specs.Bodies.{cells_of_all, inside}
 use Rattle.zir_code.specs.Calls.{CellsAre, Calls}
 use Rattle.zir_code.proofs.Kept.{low_place, Changed}
@@ -45,15 +44,15 @@ use Rattle.zir_flow.specs.Threads.{Thread, left_for}
 use Rattle.zir_flow.specs.Stages.{Stage, Alone, Room, seen, handed}
 use Rattle.zir_flow.specs.Kinds.{Shape, Entry, Setting, value_in}
 use Rattle.zir_flow.specs.Flowing.{run_some, flow_code}
-use Rattle.zir_flow.specs.Fitting.{EmitsFit, depth_of, shape_of}
+use Rattle.zir_flow.specs.Fitting.{EmitsFit, depth_of}
 use Rattle.zir_flow.specs.Playing.{Watch}
 use Rattle.zir_flow.specs.Program.{one_more_entry, CodeAt, HasEntry, FitsEntry, HaveEntries, more_entries, top_scope, PlacesOf}
 use Rattle.zir_flow.proofs.Reaching.{Reaches, reaches_on}
 use Rattle.zir_flow.proofs.Playing.{Arriving, Arrives, ArrivesEnd, arrives_holds}
-use Rattle.zir_flow.proofs.Standing.{Ground, Covers, Stands, HoldsKept, watched, Arrived, Enters, SameBelow, HoldsCalled, watched_call, Returned, EntryPlays, moved_to, Solid, ComponentArrives}
+use Rattle.zir_flow.proofs.Standing.{Ground, Covers, Stands, watched, Arrived, Enters, watched_call, Returned, moved_to, Solid, ComponentArrives}
 use Rattle.zir_flow.proofs.Straight.{code_here, code_front, code_back, code_ends, goes_to}
 use Rattle.zir_flow.proofs.Further.{GoesOn}
-use Rattle.zir_flow.proofs.Settling.{Settled, settles_down, Ran, some_run}
+use Rattle.zir_flow.proofs.Settling.{settles_down, Ran, some_run}
 
 -- AS CALLERS SEE IT
 

@@ -1,5 +1,5 @@
 -- Components that give the function of each element, or the elements where a function holds.
-use Rattle.std.proofs.Common.{◌≡◌, ℕ, zero, suc, ◌+◌, ◌-◌, ◌%◌, ◌^◌, ◌<◌, ◌≤◌, max, Bool, true, false, List, [], ◌∷◌, ◌++◌, Some, None, length, slice_get, ap, sym, subst, refl, ◌∙◌, arith, inl, inr}
+use Rattle.std.proofs.Common.{◌≡◌, ℕ, zero, suc, ◌+◌, ◌-◌, ◌%◌, ◌^◌, ◌<◌, ◌≤◌, max, Bool, true, false, List, [], ◌∷◌, ◌++◌, None, length, slice_get, ap, sym, subst, refl, ◌∙◌, arith, inr}
 use Rattle.zir_tree.specs.declared.value.Val.{Val, Unit as UnitVal, Bool as BoolVal}
 use Rattle.zir_tree.specs.declared.place.Place.{Place}
 use Rattle.zir_tree.specs.declared.ident.Ident.{Ident}
@@ -9,13 +9,13 @@ use Rattle.zir_tree.specs.declared.ends.End.TheVariants.{Value}
 use Rattle.zir_tree.specs.declared.expr.Callee.TheVariants.{Function}
 use Rattle.zir_tree.specs.declared.comp.Comp.{Map, Filter}
 use Rattle.zir_meaning.specs.Values.{is_one}
-use Rattle.zir_meaning.specs.Trace.{State, point}
+use Rattle.zir_meaning.specs.Trace.{State}
 use Rattle.zir_meaning.specs.Evaluation.{Eval, Got, Traps, RunsOut, called_by}
 use Rattle.zir_meaning.specs.Instances.{around}
 use Rattle.zir_meaning.specs.Component.{always}
 use Rattle.zir_cells.specs.Cells.{cells_of}
-use Rattle.zir_laws.specs.Process.{Proc, Gives, Ends, NextProc, spent_proc, then_proc, tick_proc, tick_proc_of, with_proc, take_proc, outputs_proc, returns_proc, choose_proc, turns_proc, mapped_proc, filtered_proc}
-use Rattle.zir_laws.proofs.Evaluating.{Later, EvalKeeps}
+use Rattle.zir_laws.specs.Process.{Proc, Ends, NextProc, spent_proc, then_proc, tick_proc_of, with_proc, take_proc, outputs_proc, returns_proc, choose_proc, turns_proc, mapped_proc, filtered_proc}
+use Rattle.zir_laws.proofs.Evaluating.{EvalKeeps}
 use Rattle.zir_laws.proofs.Expressions.{evaluates-called}
 use Rattle.zir_laws.proofs.Functions.{evaluates-library}
 use Rattle.zir_shapes.specs.Shapes.{Shaped}
@@ -24,19 +24,19 @@ use Rattle.zir_shapes.proofs.Fitting.{sizes-fit}
 use Rattle.zir_expr.specs.Answers.{is_set}
 use Rattle.zir_expr.specs.declared.frame.Spot.TheVariants.{Local}
 use Rattle.zir_expr.specs.declared.steps.Step.{Step, Call}
-use Rattle.zir_expr.specs.Memory.{Ran, Done, cell_at, moved, after, from_base, place_of, then_run}
+use Rattle.zir_expr.specs.Memory.{Done, cell_at, moved, after, from_base, then_run}
 use Rattle.zir_expr.specs.Memory.Frames.{Memory}
 use Rattle.zir_expr.specs.Running.{go_all}
 use Rattle.zir_code.specs.declared.scope.Signature.{Signature}
 use Rattle.zir_code.specs.Scopes.{Scope}
 use Rattle.zir_code.specs.Types.{result_type, cells_for}
 use Rattle.zir_code.specs.Coding.{moving, call_code}
-use Rattle.zir_code.specs.Holding.{At, Holds, Spares, Kept, StandsAt, Ends as EndsAs, Agrees}
+use Rattle.zir_code.specs.Holding.{At, Holds, Spares, Kept, StandsAt, Agrees}
 use Rattle.zir_code.specs.Calls.{CellsAre}
 use Rattle.zir_code.proofs.Agreeing.{go_all-append, OnGot, ends_with, ends_less}
 use Rattle.zir_code.proofs.Calls.{calls_agree}
-use Rattle.zir_code.proofs.Cells.{cell, at_same}
-use Rattle.zir_code.proofs.Kept.{low_place, Changed, kept_changed, holds_kept, holds_more}
+use Rattle.zir_code.proofs.Cells.{at_same}
+use Rattle.zir_code.proofs.Kept.{low_place, kept_changed, holds_kept}
 use Rattle.zir_code.proofs.Moves.{Moved, moves, moved_at, moving_goes}
 use Rattle.zir_code.proofs.Operating.{is_set_cell}
 use Rattle.zir_flow.specs.declared.instruction.Instruction.{Instruction}
@@ -44,13 +44,12 @@ use Rattle.zir_flow.specs.declared.instruction.Instruction.TheVariants.{Run, Tic
 use Rattle.zir_flow.specs.Threads.{Thread, Goes, onward, backward, next_with, either_move, goes_if}
 use Rattle.zir_flow.specs.Stages.{Stage, Alone, Room}
 use Rattle.zir_flow.specs.Fitting.{StepFits}
-use Rattle.zir_flow.specs.Flowing.{map_code, filter_code}
+use Rattle.zir_flow.specs.Flowing.{map_code}
 use Rattle.zir_flow.specs.Playing.{Watch}
 use Rattle.zir_flow.specs.Program.{CodeAt}
-use Rattle.zir_flow.proofs.Reaching.{Reaches}
 use Rattle.zir_flow.proofs.Playing.{Arriving, Arrives, arrives_on, arrives_then}
 use Rattle.zir_flow.proofs.Standing.{Ground, Stands, watched, Arrived, Solid, ComponentArrives}
-use Rattle.zir_flow.proofs.Straight.{code_here, code_next, code_back, code_ends, next_place, onward_place, backward_place, goes_to, spares_none, spares_then, spares_less, spares_kept, place_fits, stands_moved, stands_more, stands_fewer, straight_arrives, ticked_state, ticked_memory, ticked_thread, tick_arrives}
+use Rattle.zir_flow.proofs.Straight.{code_here, code_next, code_back, code_ends, next_place, onward_place, backward_place, goes_to, spares_none, spares_then, spares_less, spares_kept, place_fits, stands_moved, stands_more, stands_fewer, straight_arrives, ticked_state, ticked_thread, tick_arrives}
 use Rattle.zir_flow.proofs.Giving.{output_arrives}
 use Rattle.zir_flow.proofs.Taking.{TakenAt, take_on}
 

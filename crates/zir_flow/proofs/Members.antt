@@ -1,19 +1,17 @@
 -- Blocks arrive, member after member, and what is seen of the members is seen of the block.
-use Rattle.std.specs.Prelude.{ℕ, suc, ℤ, ◌+◌, ◌<◌, ◌≤◌, ◌^◌, List, [], ◌∷◌, ◌++◌, Option, Some, None, ◌≡◌, ◌⊎◌, refl, length, slice_get, take}
-use Rattle.std.proofs.Common.{ap, ◌∙◌, sym, subst, arith, inl, inr, append-nil, append_assoc, length-append, take-take}
+use Rattle.std.specs.Prelude.{ℕ, suc, ◌+◌, ◌<◌, ◌≤◌, ◌^◌, List, ◌∷◌, ◌++◌, Option, Some, None, ◌≡◌, ◌⊎◌, refl, length}
+use Rattle.std.proofs.Common.{ap, ◌∙◌, sym, subst, arith, inl, inr, length-append}
 use Rattle.zir_tree.specs.declared.ident.Ident.{Ident}
 use Rattle.zir_tree.specs.declared.value.Val.{Val, Unit as UnitVal}
-use Rattle.zir_tree.specs.declared.value.Slot.{Slot}
 use Rattle.zir_tree.specs.declared.types.Base.TheVariants.{Unit as UnitTy}
 use Rattle.zir_tree.specs.declared.types.Ty.{Ty}
 use Rattle.zir_tree.specs.declared.types.TypeExpr.{TypeExpr}
-use Rattle.zir_tree.specs.declared.types.StructDef.{StructDef}
 use Rattle.zir_tree.specs.declared.expr.Expr.{Expr}
 use Rattle.zir_tree.specs.declared.stmt.Var.{Var as VarDecl}
 use Rattle.zir_tree.specs.declared.comp.Comp.{Comp, Row_of-Member, end_of-Member, more_of-Member}
 use Rattle.zir_tree.specs.declared.comp.Member.{Bind, Var, Run as RunMember}
 use Rattle.zir_meaning.specs.Values.{type_of, blank, blanks_of}
-use Rattle.zir_meaning.specs.Store.{Store, depth}
+use Rattle.zir_meaning.specs.Store.{depth}
 use Rattle.zir_meaning.specs.Trace.{State}
 use Rattle.zir_meaning.specs.Statements.{bind, leave, initial_of}
 use Rattle.zir_meaning.specs.Instances.{around}
@@ -24,20 +22,19 @@ use Rattle.zir_shapes.specs.Offsets.{plain_type as plain}
 use Rattle.zir_shapes.proofs.Blank.{blanks-have}
 use Rattle.zir_shapes.proofs.Fitting.{sizes-fit}
 use Rattle.zir_expr.specs.declared.frame.Spot.TheVariants.{Local}
-use Rattle.zir_expr.specs.declared.steps.Step.{Step}
-use Rattle.zir_expr.specs.Memory.{from_base, place_of}
+use Rattle.zir_expr.specs.Memory.{from_base}
 use Rattle.zir_expr.specs.Memory.Frames.{Memory}
 use Rattle.zir_expr.specs.Running.{go_all}
 use Rattle.zir_code.specs.declared.scope.Holder.{Holder}
 use Rattle.zir_code.specs.Scopes.{Scope}
 use Rattle.zir_code.specs.Types.{type_or_unit, cells_for}
 use Rattle.zir_code.specs.Coding.{settling}
-use Rattle.zir_code.specs.Holding.{At, Hold, InOrder, Outside, Spares, StandsAt}
+use Rattle.zir_code.specs.Holding.{At, InOrder, Spares, StandsAt}
 use Rattle.zir_code.specs.Statements.{with_local, initial_code}
 use Rattle.zir_code.specs.Fine.{InitialFits}
 use Rattle.zir_code.proofs.Kept.{low_place, Changed, kept_holds, holds_kept, kept_changed}
 use Rattle.zir_code.proofs.Blank.{no_change, blanks_go}
-use Rattle.zir_code.proofs.Stores.{hold_length, hold_front, hold_other, bound_holds}
+use Rattle.zir_code.proofs.Stores.{hold_length, bound_holds}
 use Rattle.zir_flow.specs.declared.instruction.Instruction.{Instruction}
 use Rattle.zir_flow.specs.declared.instruction.Instruction.TheVariants.{Run}
 use Rattle.zir_flow.specs.Threads.{Thread, next_with}
@@ -48,12 +45,11 @@ use Rattle.zir_flow.specs.Fitting.{MembersFlow, members_depth, depth_of, members
 use Rattle.zir_flow.specs.Playing.{Watch}
 use Rattle.zir_flow.specs.Program.{CodeAt}
 use Rattle.zir_flow.specs.Laws.{ValueStands}
-use Rattle.zir_flow.proofs.Reaching.{Reaches}
-use Rattle.zir_flow.proofs.Playing.{Arriving, Arrives, arrives_then, arrives_holds}
-use Rattle.zir_flow.proofs.Standing.{Ground, Covers, Stands, HoldsKept, watched, Arrived, Solid, ComponentArrives}
+use Rattle.zir_flow.proofs.Playing.{Arriving, Arrives, arrives_then}
+use Rattle.zir_flow.proofs.Standing.{Ground, Covers, Stands, watched, Arrived, Solid, ComponentArrives}
 use Rattle.zir_flow.proofs.Straight.{code_front, code_back, code_next, code_ends, spares_none, spares_then, spares_kept, spares_changed, place_fits, stands_changed, steps_arrive, settled_arrives, covers_left, covers_right}
 use Rattle.zir_flow.proofs.Within.{Within, within_more, within_local, stands_left, inner_arrives}
-use Rattle.zir_flow.proofs.Settling.{Settled, settles_down, Ran, some_run}
+use Rattle.zir_flow.proofs.Settling.{settles_down, Ran, some_run}
 
 -- BETWEEN MEMBERS
 

@@ -1,10 +1,9 @@
 -- A component that gives the elements of an array.
-use Rattle.std.proofs.Common.{◌≡◌, ℕ, zero, suc, ◌+◌, ◌*◌, ◌%◌, ◌^◌, ◌<◌, ◌≤◌, ◌⊎◌, ℤ, pos, List, [], ◌∷◌, ◌++◌, true, false, Some, length, nat_lt, slice_get, ap, sym, subst, refl, ◌∙◌, arith, inl, inr}
+use Rattle.std.proofs.Common.{◌≡◌, ℕ, suc, ◌+◌, ◌*◌, ◌%◌, ◌^◌, ◌<◌, ◌≤◌, pos, List, [], ◌∷◌, ◌++◌, true, Some, length, nat_lt, slice_get, ap, sym, subst, refl, ◌∙◌, arith, inl, inr}
 use Rattle.zir_tree.specs.declared.value.Val.{Val, Unit as UnitVal, List as Vals}
 use Rattle.zir_tree.specs.declared.place.Place.{Place}
 use Rattle.zir_tree.specs.declared.types.Base.TheVariants.{Unit as UnitTy}
 use Rattle.zir_tree.specs.declared.types.Ty.{Ty}
-use Rattle.zir_tree.specs.declared.ends.End.TheVariants.{Value}
 use Rattle.zir_tree.specs.declared.expr.Expr.{Expr}
 use Rattle.zir_tree.specs.declared.comp.Comp.{Emits}
 use Rattle.zir_meaning.specs.Values.{Each, parts}
@@ -13,7 +12,7 @@ use Rattle.zir_meaning.specs.Evaluation.{Eval, Got, ev}
 use Rattle.zir_meaning.specs.Instances.{around}
 use Rattle.zir_cells.specs.Cells.{cells_of}
 use Rattle.zir_cells.specs.Layout.{layout_of}
-use Rattle.zir_laws.specs.Process.{Proc, Gives, Ends, tick_proc_of, outputs_proc}
+use Rattle.zir_laws.specs.Process.{Proc, Gives, tick_proc_of, outputs_proc}
 use Rattle.zir_shapes.specs.Shapes.{Shaped}
 use Rattle.zir_shapes.specs.Offsets.{plain_type as plain, array_type as array_of, list_cells}
 use Rattle.zir_shapes.proofs.Fitting.{sizes-fit, each-size}
@@ -41,12 +40,12 @@ use Rattle.zir_flow.specs.declared.instruction.Instruction.{Instruction}
 use Rattle.zir_flow.specs.declared.instruction.Instruction.TheVariants.{Run, Gives as GivesAll}
 use Rattle.zir_flow.specs.Threads.{Thread, Move, Goes, Offers, cells_from, onward, next_with, come, next_of, counted_on, either_move, after_steps}
 use Rattle.zir_flow.specs.Stages.{Alone, Room, Gone, Giving, turn, turned_by}
-use Rattle.zir_flow.specs.Playing.{Watch, Comes}
+use Rattle.zir_flow.specs.Playing.{Watch}
 use Rattle.zir_flow.specs.Program.{CodeAt}
 use Rattle.zir_flow.proofs.Reaching.{comes_next}
 use Rattle.zir_flow.proofs.Playing.{Arriving, Arrives, arrives_on}
 use Rattle.zir_flow.proofs.Standing.{Ground, Stands, watched, Arrived, Solid, ComponentArrives}
-use Rattle.zir_flow.proofs.Straight.{code_here, code_next, next_place, turn_at, goes_to, spares_then, spares_kept, spares_changed, place_fits, stands_moved, held_since, arrived, ends_at, ticked_state, ticked_memory, tick_cases, straight_arrives, ev_keeps, expressions_agree}
+use Rattle.zir_flow.proofs.Straight.{code_here, code_next, next_place, turn_at, goes_to, spares_then, spares_kept, place_fits, stands_moved, held_since, arrived, ends_at, ticked_state, ticked_memory, tick_cases, straight_arrives, ev_keeps, expressions_agree}
 use Rattle.zir_flow.proofs.Giving.{cells_found}
 use Rattle.zir_flow.proofs.Taking.{changed_held, come_is, is_less, is_all, in_parts}
 

@@ -1,14 +1,13 @@
 -- A stage that plays a process up to its end with a value, and what then follows.
-use Rattle.std.proofs.Common.{◌≡◌, ℕ, zero, suc, ◌+◌, ◌%◌, ◌^◌, List, ap, sym, subst, refl, ◌∙◌}
+use Rattle.std.proofs.Common.{List}
 use Rattle.zir_tree.specs.declared.value.Val.{Val}
 use Rattle.zir_tree.specs.declared.ends.End.{End}
 use Rattle.zir_tree.specs.declared.ends.Trap.{Trap}
 use Rattle.zir_tree.specs.declared.ends.End.TheVariants.{Value, Starved, Trap as Trapped, Spent}
 use Rattle.zir_meaning.specs.Store.{Store}
 use Rattle.zir_meaning.specs.Trace.{State, Point, point}
-use Rattle.zir_meaning.specs.Evaluation.{Eval, Got, Traps, RunsOut}
 use Rattle.zir_cells.specs.Cells.{cells_of}
-use Rattle.zir_laws.specs.Process.{Proc, Gives, Ends, Needs, NextProc, goes_on, then_proc, spent_proc}
+use Rattle.zir_laws.specs.Process.{Proc, Gives, Ends, Needs, NextProc, goes_on, then_proc}
 use Rattle.zir_flow.specs.declared.instruction.Instruction.{Instruction}
 use Rattle.zir_flow.specs.Stages.{Stage, Gone, handed}
 use Rattle.zir_flow.specs.Playing.{Watch, Comes, GivesAt, NeedsAt, EndsAt, TrapsAt, PlaysEnd, Plays}

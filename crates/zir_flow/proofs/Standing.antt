@@ -1,10 +1,10 @@
 -- Where a component begins, what is watched of it, and where it ends.
-use Rattle.std.specs.Prelude.{ℕ, ◌+◌, ◌<◌, ◌≤◌, ◌%◌, ◌^◌, max, List, [], ◌∷◌, Option, Some, None, ◌≡◌, length, slice_index_or, pos}
+use Rattle.std.specs.Prelude.{ℕ, ◌+◌, ◌<◌, ◌≤◌, ◌%◌, ◌^◌, max, List, [], ◌∷◌, Option, Some, ◌≡◌, length, slice_index_or, pos}
 use Rattle.zir_tree.specs.declared.value.Val.{Val}
 use Rattle.zir_tree.specs.declared.value.Slot.{Slot}
 use Rattle.zir_tree.specs.declared.types.Ty.{Ty}
 use Rattle.zir_tree.specs.declared.types.StructDef.{StructDef}
-use Rattle.zir_tree.specs.declared.comp.Comp.{Comp, Row_of-Member}
+use Rattle.zir_tree.specs.declared.comp.Comp.{Comp}
 use Rattle.zir_tree.specs.declared.program.Core.{Core}
 use Rattle.zir_meaning.specs.Store.{Store}
 use Rattle.zir_meaning.specs.Trace.{State}
@@ -30,7 +30,7 @@ use Rattle.zir_flow.specs.Fitting.{EmitsFit, Flows, RoomFits, depth_of, shape_of
 use Rattle.zir_flow.specs.Playing.{Watch}
 use Rattle.zir_flow.specs.Program.{CodeAt}
 use Rattle.zir_flow.specs.Laws.{HoldsStore, ValueStands}
-use Rattle.zir_flow.proofs.Playing.{Arriving, Arrives}
+use Rattle.zir_flow.proofs.Playing.{Arrives}
 
 -- where components are: the program, its code and its instances, what these do, the cells of the top variables and of the body that runs among all cells, the
 -- shape of the room for compositions, the calls that the body is in, and how many there may be

@@ -1,5 +1,5 @@
 -- Components that take elements.
-use Rattle.std.proofs.Common.{◌≡◌, ℕ, zero, suc, ◌+◌, ◌-◌, ◌*◌, ◌%◌, ◌^◌, ◌<◌, ◌≤◌, ℤ, pos, List, [], ◌∷◌, ◌++◌, Bool, true, false, Some, length, replicate, nat_lt, slice_get, ap, sym, subst, refl, ◌∙◌, arith, inl, inr}
+use Rattle.std.proofs.Common.{◌≡◌, ℕ, zero, suc, ◌+◌, ◌-◌, ◌*◌, ◌%◌, ◌^◌, ◌<◌, ◌≤◌, ℤ, pos, List, [], ◌∷◌, ◌++◌, true, false, Some, length, replicate, nat_lt, slice_get, ap, sym, subst, refl, ◌∙◌, arith, inl}
 use Rattle.std.proofs.lemmas.Bool.Decides.{nat_tests}
 use Rattle.zir_tree.specs.declared.value.Val.{Val, List as Vals}
 use Rattle.zir_tree.specs.declared.place.Place.{Place}
@@ -7,21 +7,21 @@ use Rattle.zir_tree.specs.declared.types.Ty.{Ty}
 use Rattle.zir_tree.specs.declared.types.StructDef.{StructDef}
 use Rattle.zir_tree.specs.declared.ends.End.TheVariants.{Value}
 use Rattle.zir_tree.specs.declared.comp.Comp.{Take as TakeComp, Takes as TakesComp}
-use Rattle.zir_meaning.specs.Trace.{State, point}
+use Rattle.zir_meaning.specs.Trace.{State}
 use Rattle.zir_cells.specs.Cells.{cells_of}
 use Rattle.zir_cells.specs.Layout.{layout_of}
-use Rattle.zir_laws.specs.Process.{Proc, Ends, Needs, take_proc, takes_proc}
+use Rattle.zir_laws.specs.Process.{Ends, take_proc, takes_proc}
 use Rattle.zir_shapes.specs.Shapes.{Shaped}
 use Rattle.zir_shapes.specs.Offsets.{array_type as array_of}
 use Rattle.zir_shapes.proofs.Fitting.{sizes-fit}
 use Rattle.zir_shapes.proofs.PartCells.{cells-list}
 use Rattle.zir_expr.specs.declared.frame.Spot.TheVariants.{Local}
 use Rattle.zir_expr.specs.declared.steps.Step.{Step, Number}
-use Rattle.zir_expr.specs.Memory.{Done, cell_at, put_cell, after, from_base, place_of}
+use Rattle.zir_expr.specs.Memory.{Done, cell_at, put_cell, after, from_base}
 use Rattle.zir_expr.specs.Memory.Frames.{Memory}
 use Rattle.zir_code.specs.Scopes.{Scope}
 use Rattle.zir_code.specs.Types.{cells_for}
-use Rattle.zir_code.specs.Holding.{At, Holds, Spares, Kept}
+use Rattle.zir_code.specs.Holding.{At, Holds, Spares}
 use Rattle.zir_code.specs.Calls.{CellsAre}
 use Rattle.zir_code.proofs.Cells.{cell, at_same}
 use Rattle.zir_code.proofs.Kept.{low_place, Changed, changed_cell, changed_both, cell_written, kept_changed, holds_kept, kept_holds}
@@ -30,14 +30,14 @@ use Rattle.zir_code.proofs.Rows.{width_of_all, same_cells, one_more_value, cells
 use Rattle.zir_flow.specs.declared.instruction.Series.{Series}
 use Rattle.zir_flow.specs.declared.instruction.Instruction.{Instruction}
 use Rattle.zir_flow.specs.declared.instruction.Instruction.TheVariants.{Run, Tick, Take, Takes, Again}
-use Rattle.zir_flow.specs.Threads.{Thread, Wants, Goes, written, onward, backward, next_with, moved_by, move_if, fed, fed_by, come, next_of, counted_on, either_move, either_thread, count_in}
-use Rattle.zir_flow.specs.Stages.{Stage, Alone, Room, Needing, turned_by, handed}
+use Rattle.zir_flow.specs.Threads.{Thread, Wants, Goes, written, onward, backward, next_with, moved_by, fed, fed_by, come, next_of, counted_on, either_move, either_thread, count_in}
+use Rattle.zir_flow.specs.Stages.{Stage, Alone, Room, Needing, turned_by}
 use Rattle.zir_flow.specs.Playing.{Watch}
 use Rattle.zir_flow.specs.Program.{CodeAt}
 use Rattle.zir_flow.proofs.Reaching.{comes_next, stays}
 use Rattle.zir_flow.proofs.Playing.{Arriving, Arrives, arrives_on, arrives_then, arrives_holds}
-use Rattle.zir_flow.proofs.Standing.{Ground, Stands, HoldsKept, watched, Arrived, Solid, ComponentArrives}
-use Rattle.zir_flow.proofs.Straight.{code_here, code_next, code_ends, next_place, onward_place, backward_place, turn_at, goes_to, spares_none, spares_then, spares_changed, place_fits, stands_next, stands_changed, stands_moved, held_since, arrived, ends_at, steps_arrive, ticked_state, ticked_memory, ticked_thread, tick_on}
+use Rattle.zir_flow.proofs.Standing.{Ground, Stands, watched, Arrived, ComponentArrives}
+use Rattle.zir_flow.proofs.Straight.{code_here, code_next, code_ends, next_place, onward_place, backward_place, turn_at, goes_to, spares_none, spares_then, spares_changed, place_fits, stands_changed, stands_moved, held_since, arrived, ends_at, steps_arrive, ticked_state, ticked_thread, tick_on}
 
 -- CELLS THAT ARE WRITTEN
 
