@@ -49,14 +49,18 @@ branch_goes b x k th e = ap (λ c. either_move (goes_if c false) (Goes (onward k
 -- one that has arrived since a later memory has arrived
 stays_since : (a : Ground) (g : Scope) (d place place' : ℕ) (ty : Option Ty) (m m1 : Memory) (v : Val) (s : State) (st : Stage) → place ≡ place' →
     Spares a.top a.base d g m m1 → Arrived a g d ty place m1 v s st → GoesOn (Arrived a g d ty place' m) a.code v s st
-stays_since a g d place place' ty m m1 v s st e q h = (st, stays a.code st, record {
-  th = h.th;
-  room = h.room;
-  alone = h.alone;
-  stands = subst (λ p. Stands a g d p h.th h.room s) e h.stands;
-  value = h.value;
-  spared = spares_then a.top a.base d g m m1 h.th.memory q h.spared;
-})
+stays_since a g d place place' ty m m1 v s st e q h = (
+  st,
+  stays a.code st,
+  record {
+    th = h.th;
+    room = h.room;
+    alone = h.alone;
+    stands = subst (λ p. Stands a g d p h.th h.room s) e h.stands;
+    value = h.value;
+    spared = spares_then a.top a.base d g m m1 h.th.memory q h.spared;
+  },
+)
 
 -- one that has arrived since a later memory goes on over other code
 ahead_since : (a : Ground) (g : Scope) (d place place' k : ℕ) (ty : Option Ty) (m m1 : Memory) (rest : List Instruction) (v : Val) (s : State) (st : Stage) →
@@ -64,8 +68,7 @@ ahead_since : (a : Ground) (g : Scope) (d place place' k : ℕ) (ty : Option Ty)
     GoesOn (Arrived a g d ty place' m) a.code v s st
 ahead_since a g d place place' k ty m m1 rest v s st c e lt q h =
     let th' : Thread = onward k h.th in
-    let p : from_base (after h.th.place) k ≡ place' = ap (λ p. from_base (after p) k) h.stands.place_is ∙ onward_place place k (omega arith) ∙ e in
-    (
+    let p : from_base (after h.th.place) k ≡ place' = ap (λ p. from_base (after p) k) h.stands.place_is ∙ onward_place place k (omega arith) ∙ e in (
       Alone th' h.room,
       subst (λ z. Reaches a.code z (Alone th' h.room)) (sym h.alone)
           (goes_to a.code (Ahead k) h.th th' h.room (ap (slice_get a.code) h.stands.place_is ∙ code_here a.code place (Ahead k) rest c) refl),

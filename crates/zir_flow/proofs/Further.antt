@@ -35,14 +35,18 @@ pub arrives_further : (A B : Arriving) (w w' : Watch) (code : List Instruction) 
     ((v : Val) (s' : State) (st' : Stage) → A v s' st' → GoesOn B code v s' st') → ((st' : Stage) (store : Store) → w.holds st' store → w'.holds st' store) →
     ((x : Val) → w'.element x → w.element x) → ((x : Val) → w.output x → w'.output x) → Arrives A w code p st → Arrives B w' code p st
 arrives_further A B w w' code (Gives o p) st f g e u h =
-    let at = h.1 in
-    (h.0, record { taken = at.taken; ticks = at.ticks; comes = at.comes; at = at.at; holds = g h.0 o.at.store at.holds; output = u o.value at.output },
-    arrives_further A B w w' code p h.0 f g e u h.2)
+    let at = h.1 in (
+      h.0,
+      record { taken = at.taken; ticks = at.ticks; comes = at.comes; at = at.at; holds = g h.0 o.at.store at.holds; output = u o.value at.output },
+      arrives_further A B w w' code p h.0 f g e u h.2,
+    )
 arrives_further A B w w' code (Ends x s) st f g e u h = end_further A B code x s st f h
 arrives_further A B w w' code (Needs s k) st f g e u h =
-    let at = h.1 in
-    (h.0, record { taken = at.taken; ticks = at.ticks; comes = at.comes; at = at.at; holds = g h.0 s.store at.holds },
-    λ x fits. arrives_further A B w w' code (k x) (handed code (cells_of x) h.0) f g e u (h.2 x (e x fits)))
+    let at = h.1 in (
+      h.0,
+      record { taken = at.taken; ticks = at.ticks; comes = at.comes; at = at.at; holds = g h.0 s.store at.holds },
+      λ x fits. arrives_further A B w w' code (k x) (handed code (cells_of x) h.0) f g e u (h.2 x (e x fits)),
+    )
 
 -- what is seen since an earlier memory
 pub kept_since : (a : Ground) (g : Scope) (d : ℕ) (m m1 : Memory) (st : Stage) (store : Store) → Spares a.top a.base d g m m1 →

@@ -51,8 +51,7 @@ give_arrives A w a g d place n x rest th room s v p lt c h at size fits held f =
     let i : slice_get a.code th.place ≡ Some (Give x n) = ap (slice_get a.code) h.place_is ∙ code_here a.code place (Give x n) rest c in
     let cells : cells_from n (place_of th.base x) th.memory ≡ cells_of v =
     ap (λ b. cells_from n (place_of b x) th.memory) h.base_is ∙ ap (λ k. cells_from k (place_of a.base x) th.memory) (sym size)
-    ∙ cells_found (place_of a.base x) th.memory (cells_of v) h.held.small at in
-    (
+    ∙ cells_found (place_of a.base x) th.memory (cells_of v) h.held.small at in (
       Alone (onward 0 th) room,
       record {
         taken = th.taken;

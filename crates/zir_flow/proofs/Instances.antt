@@ -71,8 +71,7 @@ seen_arrives : (A B : Arriving) (w w' : Watch) (code : List Instruction) (locals
     ((st' : Stage) (store : Store) → w.holds st' store → w'.holds st' (record store { locals = locals })) →
     ((x : Val) → w'.element x → w.element x) → ((x : Val) → w.output x → w'.output x) → Arrives A w code p st → Arrives B w' code (seen_proc locals p) st
 seen_arrives A B w w' code locals (Gives o p) st f g e u h =
-    let at = h.1 in
-    (
+    let at = h.1 in (
       h.0,
       record {
         taken = at.taken;
@@ -86,8 +85,7 @@ seen_arrives A B w w' code locals (Gives o p) st f g e u h =
     )
 seen_arrives A B w w' code locals (Ends x s) st f g e u h = end_seen A B w' code locals x s st f h
 seen_arrives A B w w' code locals (Needs s k) st f g e u h =
-    let at = h.1 in
-    (
+    let at = h.1 in (
       h.0,
       record {
         taken = at.taken;
@@ -180,8 +178,7 @@ leaves_body a g i e place c calls locals m v s st lt q h order code r =
     let here : slice_get a.code th1.place ≡ Some Leave =
     ap (slice_get a.code) ran.is ∙ code_here a.code (place + length (run_some steps)) Leave [] (code_back a.code place (run_some steps) (Leave ∷ []) code) in
     let p : from_base a.base 0 ≡ a.base = low_place a.base 0 (omega arith) ∙ (let z : a.base + 0 ≡ a.base = omega arith in z) in
-    let long : length m'.cells ≡ length r.th.memory.cells = c'.size in
-    (
+    let long : length m'.cells ≡ length r.th.memory.cells = c'.size in (
       Alone th2 r.room,
       subst (λ z. Reaches a.code z (Alone th2 r.room)) (sym r.alone)
           (reaches_on a.code (Alone r.th r.room) (Alone th1 r.room) (Alone th2 r.room) ran.reaches

@@ -116,26 +116,29 @@ ends_block a g input out begin d at m ls ty last v place th room s solid f c dee
     let c' : Changed (a.base + begin) (a.base + begin + n) th.memory m' = w.so.changed in
     let r : Ran a.code (place + length code) th room m' =
     some_run a.code place (settling (Local at) begin n) th room m' c h.place_is (omega arith)
-    (ap (λ i. go_all (settling (Local at) begin n) i th.memory) h.base_is ∙ w.is) in
-    (Alone (record th { place = r.at; memory = m' }) room, r.reaches, record {
-      th = record th { place = r.at; memory = m' };
-      room = room;
-      alone = refl;
-      stands = record {
-        held = kept_holds a.top a.base begin begin a.n g th.memory m' (leave (length g.locals) s) (leave (length g.locals) s) (omega arith) held
-            (kept_changed a.top a.base begin (a.base + begin) (a.base + begin + n) g th.memory th.memory m' (leave (length g.locals) s)
-            (leave (length g.locals) s) held.apart (omega arith) (holds_kept a.top a.base begin begin a.n g th.memory (leave (length g.locals) s) held) c');
-        place_is = r.is;
-        base_is = h.base_is;
-        calls_are = h.calls_are;
-        deep_is = h.deep_is;
-        taken = h.taken;
-        size_is = c'.size ∙ h.size_is;
-        room_fits = h.room_fits;
-      };
-      value = record { is = b.value.is; has = b.value.has; shape = b.value.shape; cells = w.so.cells };
-      spared = λ i x y o. c'.others i (inl (omega arith)) ∙ b.spared i x y o;
-    })
+    (ap (λ i. go_all (settling (Local at) begin n) i th.memory) h.base_is ∙ w.is) in (
+      Alone (record th { place = r.at; memory = m' }) room,
+      r.reaches,
+      record {
+        th = record th { place = r.at; memory = m' };
+        room = room;
+        alone = refl;
+        stands = record {
+          held = kept_holds a.top a.base begin begin a.n g th.memory m' (leave (length g.locals) s) (leave (length g.locals) s) (omega arith) held
+              (kept_changed a.top a.base begin (a.base + begin) (a.base + begin + n) g th.memory th.memory m' (leave (length g.locals) s)
+              (leave (length g.locals) s) held.apart (omega arith) (holds_kept a.top a.base begin begin a.n g th.memory (leave (length g.locals) s) held) c');
+          place_is = r.is;
+          base_is = h.base_is;
+          calls_are = h.calls_are;
+          deep_is = h.deep_is;
+          taken = h.taken;
+          size_is = c'.size ∙ h.size_is;
+          room_fits = h.room_fits;
+        };
+        value = record { is = b.value.is; has = b.value.has; shape = b.value.shape; cells = w.so.cells };
+        spared = λ i x y o. c'.others i (inl (omega arith)) ∙ b.spared i x y o;
+      },
+    )
 
 -- a member that is a component, and then what follows it in the block
 member_then : (a : Ground) (g : Scope) (input out : Ty) (begin d at : ℕ) (m : Memory) (ls : List Holder) (ty : Ty) (last : Option Ty) (v : Val) (place : ℕ)
@@ -275,8 +278,11 @@ initial_arrives A w a g d place ty None rest th room s next solid known fits f c
     steps_arrive A w a g d place _ rest th room s z.memory (next (blank (around a.core).library.blanks t) s) c h z.is
     (subst (λ blanks. Arrives A w a.code (next (blank blanks t) s) (Alone (next_with th z.memory) room)) (sym solid.functions.blanks)
     (k (blank (blanks_of g.structs) t) s z.memory
-    (record { shape = b.shape; cells = subst (λ i. At z.memory.cells i (cells_of (blank (blanks_of g.structs) t))) (sym q)
-        (subst (At z.memory.cells (a.base + d)) (sym b.cells) z.so.cells) })
+    (record {
+      shape = b.shape;
+      cells = subst (λ i. At z.memory.cells i (cells_of (blank (blanks_of g.structs) t))) (sym q)
+          (subst (At z.memory.cells (a.base + d)) (sym b.cells) z.so.cells);
+    })
     (spares_changed a.top a.base d (a.base + d) (a.base + d + n) g th.memory z.memory (omega arith) z.so.changed)
     (stands_changed a g d place (a.base + d) (a.base + d + n) th room s z.memory lt (omega arith) h z.so.changed)))
 initial_arrives A w a g d place ty (Some e) rest th room s next solid known fits f c h k =

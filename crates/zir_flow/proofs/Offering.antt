@@ -51,12 +51,12 @@ use Rattle.zir_flow.proofs.Taking.{changed_held, come_is, is_less, is_all, in_pa
 
 -- where so many elements of an array from an index on have been given, since a memory
 record Gave (a : Ground) (g : Scope) (d place counter at k : ℕ) (out : Ty) (m : Memory) (vs : List Val) (th : Thread) (room : Room) (s : State) : Type 0
-    where
-  pub stands : Stands a g d place th room s
-  pub count : cell th.memory.cells (a.base + counter) ≡ pos k
-  pub each : Each (Shaped g.structs out) vs
-  pub cells : At th.memory.cells (at + k * layout_of g.structs out) (list_cells vs)
-  pub spared : Spares a.top a.base d g m th.memory
+  where
+    pub stands : Stands a g d place th room s
+    pub count : cell th.memory.cells (a.base + counter) ≡ pos k
+    pub each : Each (Shaped g.structs out) vs
+    pub cells : At th.memory.cells (at + k * layout_of g.structs out) (list_cells vs)
+    pub spared : Spares a.top a.base d g m th.memory
 
 -- the elements that are still to be given
 gives_on : (vs : List Val) (k : ℕ) (a : Ground) (g : Scope) (input out : Ty) (d place counter at count : ℕ) (x : Spot) (rest : List Instruction)

@@ -155,14 +155,14 @@ changed_held a g d low high m m' s le c h =
 
 -- where an element stands in free cells, since a memory and a state
 pub record TakenAt (a : Ground) (g : Scope) (d place at : ℕ) (input : Ty) (m : Memory) (room : Room) (s0 : State) (x : Val) (s : State) (st : Stage) : Type 0
-    where
-  pub th : Thread
-  pub alone : st ≡ Alone th room
-  pub stands : Stands a g d place th room s
-  pub shape : Shaped g.structs input x
-  pub cells : At th.memory.cells (a.base + at) (cells_of x)
-  pub others : (i : ℕ) → i < a.base + at → cell th.memory.cells i ≡ cell m.cells i
-  pub fewer : s0.left ≡ suc s.left
+  where
+    pub th : Thread
+    pub alone : st ≡ Alone th room
+    pub stands : Stands a g d place th room s
+    pub shape : Shaped g.structs input x
+    pub cells : At th.memory.cells (a.base + at) (cells_of x)
+    pub others : (i : ℕ) → i < a.base + at → cell th.memory.cells i ≡ cell m.cells i
+    pub fewer : s0.left ≡ suc s.left
 
 -- `take` inside a component, whose element goes to free cells
 pub take_on : (a : Ground) (g : Scope) (input out : Ty) (d d' place at : ℕ) (rest : List Instruction) (m : Memory) (th : Thread) (room : Room) (s : State) →
@@ -243,11 +243,11 @@ array_at structs cells i k t vs h = (
 
 -- where so many elements of a series have come, since a memory
 pub record Came (a : Ground) (g : Scope) (d place counter k : ℕ) (input : Ty) (m : Memory) (vs : List Val) (th : Thread) (room : Room) (s : State) : Type 0
-    where
-  pub stands : Stands a g d place th room s
-  pub count : cell th.memory.cells (a.base + counter) ≡ pos k
-  pub values : CellsAre g.structs th.memory.cells (a.base + d) (replicate k input) vs
-  pub spared : Spares a.top a.base d g m th.memory
+  where
+    pub stands : Stands a g d place th room s
+    pub count : cell th.memory.cells (a.base + counter) ≡ pos k
+    pub values : CellsAre g.structs th.memory.cells (a.base + d) (replicate k input) vs
+    pub spared : Spares a.top a.base d g m th.memory
 
 pub is_less : (k n count : ℕ) → k + suc n ≡ count → nat_lt k count ≡ true
 is_less k n count e = grind (arith, nat_tests)
