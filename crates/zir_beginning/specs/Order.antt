@@ -1,0 +1,38 @@
+-- Programs whose initial values use only what stands before them.
+use Rattle.std.specs.Prelude.{ℕ, ◌<◌, List, [], ◌∷◌, Option, Some, None, false, ◌≡◌, nat_eq, take}
+use Rattle.zir_tree.specs.declared.expr.Expr.{Expr}
+use Rattle.zir_tree.specs.declared.stmt.Var.{Var}
+use Rattle.zir_tree.specs.declared.program.Function.{Function}
+use Rattle.zir_tree.specs.declared.program.Core.{Core}
+use Rattle.zir_beginning.specs.Uses.{InitialWithin, BodyWithin}
+
+-- none of these variables has this number
+abbrev pub Apart : List Var → ℕ → Type 0
+Apart [] id = Unit {0}
+Apart (v ∷ vs) id = (nat_eq v.name.id id ≡ false) × Apart vs id
+
+-- no two of these variables have one number
+abbrev pub HaveOwnNumbers : List Var → Type 0
+HaveOwnNumbers [] = Unit {0}
+HaveOwnNumbers (v ∷ vs) = Apart vs v.name.id × HaveOwnNumbers vs
+
+-- none of these functions uses one of these variables
+abbrev pub Leave : List Var → List Function → Type 0
+Leave later [] = Unit {0}
+Leave later (f ∷ fs) = BodyWithin (Apart later) (λ k. Unit {0}) f.body × Leave later fs
+
+-- an initial value calls some of the first functions alone, and neither it nor any of these uses one of these variables
+pub record Precedes (functions : List Function) (later : List Var) (initial : Option Expr) : Type 0 where
+  pub count : ℕ
+  pub value : InitialWithin (Apart later) (λ k. k < count) initial
+  pub first : Leave later (take count functions)
+
+-- each initial value, with what it calls, uses only variables before it
+abbrev pub ArePreceding : List Function → List Var → Type 0
+ArePreceding functions [] = Unit {0}
+ArePreceding functions (v ∷ vs) = Precedes functions (v ∷ vs) v.initial × ArePreceding functions vs
+
+-- the top variables of a program have numbers of their own, and each initial value, with what it calls, uses only variables before it
+pub record BeginsInOrder (core : Core) : Type 0 where
+  pub own : HaveOwnNumbers core.variables
+  pub values : ArePreceding core.functions core.variables

@@ -1,0 +1,2 @@
+//! How a program begins.
+#![tactic(auto)]
