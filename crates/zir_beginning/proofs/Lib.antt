@@ -1,1 +1,4 @@
 mod Changing
+mod Sparing
+mod Leaving
+mod Calling
