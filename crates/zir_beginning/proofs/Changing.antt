@@ -171,7 +171,7 @@ commutes-called c l P Q h (Struct k) u vs = commutes-got c (Vals vs)
 
 mutual
   -- each expression
-  commutes-ev : (c : Change) (l : Library) (P Q : ℕ → Type 0) → Spared c l P Q → (e : Expr) → ExprWithin P Q e → Commutes c (λ s. ev l e s)
+  pub commutes-ev : (c : Change) (l : Library) (P Q : ℕ → Type 0) → Spared c l P Q → (e : Expr) → ExprWithin P Q e → Commutes c (λ s. ev l e s)
   commutes-ev c l P Q h (Unit p) u = commutes-got c UnitVal
   commutes-ev c l P Q h (Bit b p) u = commutes-got c (BitVal b)
   commutes-ev c l P Q h (BoolLiteral b p) u = commutes-got c (BoolVal b)

@@ -2,3 +2,4 @@ mod Changing
 mod Sparing
 mod Leaving
 mod Calling
+mod Beginning
