@@ -3,3 +3,5 @@ mod Sparing
 mod Leaving
 mod Calling
 mod Beginning
+mod Typing
+mod Walking

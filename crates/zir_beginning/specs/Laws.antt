@@ -3,13 +3,16 @@ use Rattle.std.specs.Prelude.{ℕ, List, ◌++◌, ◌≡◌}
 use Rattle.zir_tree.specs.declared.value.Val.{Unit as UnitVal}
 use Rattle.zir_tree.specs.declared.value.Slot.{Slot}
 use Rattle.zir_tree.specs.declared.program.Core.{Core}
+use Rattle.zir_tree.specs.declared.program.Prog.{Prog}
+use Rattle.zir_types.specs.Walk.{Fine}
+use Rattle.zir_types.specs.Programs.{program}
 use Rattle.zir_meaning.specs.Trace.{State}
 use Rattle.zir_meaning.specs.Evaluation.{Eval, Got, Traps, RunsOut}
 use Rattle.zir_meaning.specs.Statements.{does_all}
 use Rattle.zir_meaning.specs.Functions.{library_of}
 use Rattle.zir_meaning.specs.Run.{top_values, start}
 use Rattle.zir_beginning.specs.Temporary.{initial_assignments, blank_start}
-use Rattle.zir_beginning.specs.Order.{BeginsInOrder}
+use Rattle.zir_beginning.specs.Order.{BeginsInOrder, OwnsNumbers}
 
 -- more top variables stand behind the others
 abbrev pub with_more : List Slot → State → State
@@ -28,3 +31,7 @@ InitialsBegin =
     (core : Core) (n : ℕ) → BeginsInOrder core →
     let l = library_of core.structs core.functions in
     EndsAs (top_values l core.variables (start n)) (does_all l (initial_assignments core.variables) (blank_start core n))
+
+-- in the core of a typed program each initial value uses only what stands before it, where the top variables have numbers of their own
+abbrev pub TypedBegin : Type 0
+TypedBegin = (p : Prog) (core : Core) → program p ≡ Fine core → OwnsNumbers core → BeginsInOrder core

@@ -1,7 +1,9 @@
 -- Programs whose initial values use only what stands before them.
 use Rattle.std.specs.Prelude.{ℕ, ◌<◌, List, [], ◌∷◌, Option, Some, None, false, ◌≡◌, nat_eq, take}
 use Rattle.zir_tree.specs.declared.expr.Expr.{Expr}
+use Rattle.zir_tree.specs.declared.types.Field.{Field}
 use Rattle.zir_tree.specs.declared.stmt.Var.{Var}
+use Rattle.zir_tree.specs.declared.stmt.Stmt.{Stmt, Var as VarStmt, Assign, Call as CallStmt, Error, If', IfElse', While', For', Row_of-Stmt, end_of-Stmt, more_of-Stmt}
 use Rattle.zir_tree.specs.declared.program.Function.{Function}
 use Rattle.zir_tree.specs.declared.program.Core.{Core}
 use Rattle.zir_beginning.specs.Uses.{InitialWithin, BodyWithin}
@@ -36,3 +38,40 @@ ArePreceding functions (v ∷ vs) = Precedes functions (v ∷ vs) v.initial × A
 pub record BeginsInOrder (core : Core) : Type 0 where
   pub own : HaveOwnNumbers core.variables
   pub values : ArePreceding core.functions core.variables
+
+abbrev mutual
+  -- each number that a statement declares is so
+  pub StmtDeclares : (ℕ → Type 0) → Stmt → Type 0
+  StmtDeclares P (VarStmt v) = P v.name.id
+  StmtDeclares P (Assign name path e) = Unit {0}
+  StmtDeclares P (CallStmt name k es) = Unit {0}
+  StmtDeclares P (Error text p) = Unit {0}
+  StmtDeclares P (If' e _ a p) = BlockDeclares P a
+  StmtDeclares P (IfElse' e _ a _ b p) = BlockDeclares P a × BlockDeclares P b
+  StmtDeclares P (While' e _ a p) = BlockDeclares P a
+  StmtDeclares P (For' name a m _ b p) = P name.id × BlockDeclares P b
+
+  -- the same of statements in a row
+  pub BlockDeclares : {m : _} → (ℕ → Type 0) → Row_of-Stmt m → Type 0
+  BlockDeclares P end_of-Stmt = Unit {0}
+  BlockDeclares P (more_of-Stmt a row) = StmtDeclares P a × BlockDeclares P row
+
+-- the same of the statements of a body
+abbrev pub AllDeclare : (ℕ → Type 0) → List Stmt → Type 0
+AllDeclare P [] = Unit {0}
+AllDeclare P (a ∷ more) = StmtDeclares P a × AllDeclare P more
+
+-- the same of parameters
+abbrev pub ParametersDeclare : (ℕ → Type 0) → List Field → Type 0
+ParametersDeclare P [] = Unit {0}
+ParametersDeclare P (p ∷ ps) = P p.name.id × ParametersDeclare P ps
+
+-- the same of functions
+abbrev pub FunctionsDeclare : (ℕ → Type 0) → List Function → Type 0
+FunctionsDeclare P [] = Unit {0}
+FunctionsDeclare P (f ∷ fs) = ParametersDeclare P f.params × AllDeclare P f.body.statements × FunctionsDeclare P fs
+
+-- the top variables of a program have numbers of their own, which no function declares
+pub record OwnsNumbers (core : Core) : Type 0 where
+  pub own : HaveOwnNumbers core.variables
+  pub inner : FunctionsDeclare (Apart core.variables) core.functions
