@@ -16,7 +16,7 @@ use Rattle.zir_meaning.specs.Evaluation.{Eval, Got, Traps, RunsOut, then_eval, e
 use Rattle.zir_meaning.specs.Statements.{assign, initial_of, does_all}
 use Rattle.zir_meaning.specs.Functions.{library_of}
 use Rattle.zir_meaning.specs.Run.{declare, top_values}
-use Rattle.zir_beginning.specs.Temporary.{blank_slots, initially, initial_assignments}
+use Rattle.zir_eval.specs.Opening.{blank_slots, initially, initial_assignments}
 use Rattle.zir_beginning.specs.Order.{Apart, HaveOwnNumbers, Leave, Precedes, ArePreceding}
 use Rattle.zir_beginning.specs.Uses.{InitialWithin}
 use Rattle.zir_beginning.specs.Laws.{with_more, EndsAs, InitialsBegin}

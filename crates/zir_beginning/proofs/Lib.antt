@@ -5,3 +5,4 @@ mod Calling
 mod Beginning
 mod Typing
 mod Walking
+mod Opening

@@ -316,7 +316,7 @@ main-taken p d core h =
       at = p.at;
     } in
     let c = held (all_same b.0 (emitted r.0.what.emits)) (Mismatch p.output.at) made core b.2 in
-    subst (Taken d) c.1 (record { variables = refl; functions = refl })
+    subst (Taken d) {x = made} c.1 (record { variables = refl; functions = refl })
 
 -- all declarations of a program
 pub typed_begin : TypedBegin

@@ -11,7 +11,7 @@ use Rattle.zir_meaning.specs.Evaluation.{Eval, Got, Traps, RunsOut}
 use Rattle.zir_meaning.specs.Statements.{does_all}
 use Rattle.zir_meaning.specs.Functions.{library_of}
 use Rattle.zir_meaning.specs.Run.{top_values, start}
-use Rattle.zir_beginning.specs.Temporary.{initial_assignments, blank_start}
+use Rattle.zir_eval.specs.Opening.{initial_assignments, blank_start}
 use Rattle.zir_beginning.specs.Order.{BeginsInOrder, OwnsNumbers}
 
 -- more top variables stand behind the others

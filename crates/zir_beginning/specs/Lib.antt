@@ -1,4 +1,4 @@
 pub mod Uses
 pub mod Order
-pub mod Temporary
 pub mod Laws
+pub mod Code
