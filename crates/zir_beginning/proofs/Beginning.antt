@@ -1,5 +1,5 @@
 -- Assigning initial values to blank variables ends as declaring one variable after the other.
-use Rattle.std.specs.Prelude.{ℕ, ◌<◌, List, [], ◌∷◌, ◌++◌, Option, Some, None, Bool, true, false, ◌≡◌, refl, nat_eq, if◌then◌else◌, take}
+use Rattle.std.specs.Prelude.{ℕ, ◌<◌, List, [], ◌∷◌, ◌++◌, Option, Some, None, Bool, true, false, ◌≡◌, refl, nat_eq, if◌then◌else◌}
 use Rattle.std.proofs.Common.{ap, sym, subst, ◌∙◌}
 use Rattle.std.proofs.Common.{append_assoc, append-nil}
 use Rattle.std.proofs.lemmas.Bool.{eqb-true, eq-eqb}
@@ -17,8 +17,7 @@ use Rattle.zir_meaning.specs.Statements.{assign, initial_of, does_all}
 use Rattle.zir_meaning.specs.Functions.{library_of}
 use Rattle.zir_meaning.specs.Run.{declare, top_values}
 use Rattle.zir_eval.specs.Opening.{blank_slots, initially, initial_assignments}
-use Rattle.zir_beginning.specs.Order.{Apart, HaveOwnNumbers, Leave, Precedes, ArePreceding}
-use Rattle.zir_beginning.specs.Uses.{InitialWithin}
+use Rattle.zir_beginning.specs.Order.{Apart, HaveOwnNumbers, Precedes, ArePreceding}
 use Rattle.zir_beginning.specs.Laws.{with_more, EndsAs, InitialsBegin}
 use Rattle.zir_beginning.proofs.Changing.{Change, changed, changed_end, SparesAll, Spared, commutes-ev}
 use Rattle.zir_beginning.proofs.Sparing.{AreOther, put-none, put-append, spares-more, spares-put}

@@ -23,7 +23,7 @@ use Rattle.zir_meaning.specs.Store.{found_or, look_up, put, depth}
 use Rattle.zir_meaning.specs.Trace.{State}
 use Rattle.zir_meaning.specs.Evaluation.{Eval, Got, Traps, RunsOut, Library, then_eval, tick_eval, tick_eval_of, trap, choose_eval, computed_at, both_sides, two_sided, element, range, found, called_by, ev, ev_all, ev_list}
 use Rattle.zir_meaning.specs.Statements.{Step, ToElement, ToRange, ToPart, position, replaced, along, bind, assign, left_by, scope, done, while_eval, turns_of, next_index, counted_eval, initial_of, does, does_row, does_all, result_of, run_body}
-use Rattle.zir_meaning.specs.Functions.{arguments, entered, returned, called_fun}
+use Rattle.zir_meaning.specs.Functions.{entered, returned, called_fun}
 use Rattle.zir_beginning.specs.Uses.{CalleeWithin, ExprWithin, RowWithin, ArgumentsWithin, PathWithin, InitialWithin, StmtWithin, BlockWithin, AllWithin, ResultWithin, BodyWithin}
 
 -- other top variables

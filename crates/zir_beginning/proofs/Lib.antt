@@ -4,5 +4,8 @@ mod Leaving
 mod Calling
 mod Beginning
 mod Typing
+mod Parts
 mod Walking
 mod Opening
+mod Numbering
+mod Keeping

@@ -6,12 +6,11 @@ use Rattle.zir_tree.specs.declared.expr.Expr.{Expr}
 use Rattle.zir_tree.specs.declared.stmt.Stmt.{Stmt}
 use Rattle.zir_tree.specs.declared.stmt.Var.{Var}
 use Rattle.zir_tree.specs.declared.value.Val.{Val, Unit as UnitVal}
-use Rattle.zir_tree.specs.declared.ends.Trap.{Trap}
 use Rattle.zir_tree.specs.declared.ends.End.TheVariants.{Trap as Trapped}
 use Rattle.zir_tree.specs.declared.program.Core.{Core}
 use Rattle.zir_meaning.specs.Store.{declared}
-use Rattle.zir_meaning.specs.Trace.{State, spent, ends}
-use Rattle.zir_meaning.specs.Evaluation.{Eval, Got, Traps, RunsOut, Funs, Library, with_value}
+use Rattle.zir_meaning.specs.Trace.{ends}
+use Rattle.zir_meaning.specs.Evaluation.{Eval, Got, Traps, RunsOut, Library, with_value}
 use Rattle.zir_meaning.specs.Statements.{initial_of, does_all}
 use Rattle.zir_meaning.specs.Functions.{library_of}
 use Rattle.zir_meaning.specs.Instances.{means}
@@ -29,7 +28,7 @@ use Rattle.zir_eval.specs.declared.evaluation.Stop.TheVariants.{Trap as ByTrap, 
 use Rattle.zir_eval.specs.Ends.{Executed}
 use Rattle.zir_eval.specs.Opening.{top_cells, program_scope, initially, initial_assignments, blank_start}
 use Rattle.zir_eval.proofs.Starting.{holds_blanks, calls_mean}
-use Rattle.zir_beginning.specs.Laws.{with_more, EndsAs}
+use Rattle.zir_beginning.specs.Laws.{EndsAs}
 use Rattle.zir_beginning.specs.Code.{Began, CodeBegins}
 use Rattle.zir_beginning.proofs.Beginning.{initials_begin}
 

@@ -1,12 +1,10 @@
 -- Two changes of top variables, which spare all others: more of them, and another value of one.
-use Rattle.std.specs.Prelude.{ℕ, List, [], ◌∷◌, ◌++◌, Bool, true, false, ◌≡◌, refl, nat_eq, if◌then◌else◌, map}
+use Rattle.std.specs.Prelude.{ℕ, List, [], ◌∷◌, ◌++◌, Bool, true, false, ◌≡◌, refl, nat_eq, if◌then◌else◌}
 use Rattle.std.proofs.Common.{ap, sym, subst, ◌∙◌}
 use Rattle.std.proofs.lemmas.Bool.{eqb-true}
 use Rattle.zir_tree.specs.declared.value.Val.{Val, Unit as UnitVal}
 use Rattle.zir_tree.specs.declared.value.Slot.{Slot}
-use Rattle.zir_tree.specs.declared.stmt.Var.{Var}
 use Rattle.zir_meaning.specs.Store.{found_or, put}
-use Rattle.zir_beginning.specs.Order.{Apart}
 use Rattle.zir_beginning.proofs.Changing.{SparesAll}
 
 -- none of these top variables has this number

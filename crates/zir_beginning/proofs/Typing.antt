@@ -1,6 +1,6 @@
 -- What is typed uses only what it sees.
-use Rattle.std.specs.Prelude.{ℕ, zero, suc, ◌<◌, List, [], ◌∷◌, ◌++◌, Option, Some, None, Bool, true, false, ◌≡◌, refl, nat_eq, if◌then◌else◌, slice_get, map}
-use Rattle.std.proofs.Common.{sym, subst}
+use Rattle.std.specs.Prelude.{ℕ, List, [], ◌∷◌, ◌++◌, Option, Some, None, Bool, true, false, ◌≡◌, refl, nat_eq, if◌then◌else◌, slice_get}
+use Rattle.std.proofs.Common.{subst}
 use Rattle.std.proofs.lemmas.Bool.{eqb-true}
 use Rattle.zir_tree.specs.declared.types.Ty.{Ty}
 use Rattle.zir_tree.specs.declared.expr.Callee.TheVariants.{Function as FunctionCallee, Struct as StructCallee}
@@ -17,7 +17,7 @@ use Rattle.zir_types.specs.Scope.{Visible, declare, type_in}
 use Rattle.zir_types.specs.Statements.{with_index}
 use Rattle.zir_types.specs.Typing.{Has, Have, Alike, function_at}
 use Rattle.zir_sound.specs.Statements.{HasIfAny, Each, Leads, IsStmt, AreStmts, AreStmtsOf, brought, behind, Returns, IsBody}
-use Rattle.zir_beginning.specs.Uses.{CalleeWithin, ExprWithin, RowWithin, ArgumentsWithin, PathWithin, InitialWithin, StmtWithin, BlockWithin, AllWithin, ResultWithin, BodyWithin}
+use Rattle.zir_beginning.specs.Uses.{ExprWithin, RowWithin, ArgumentsWithin, PathWithin, InitialWithin, StmtWithin, BlockWithin, AllWithin, ResultWithin, BodyWithin}
 use Rattle.zir_beginning.specs.Order.{StmtDeclares, BlockDeclares, AllDeclare}
 
 -- each of these variables has such a number

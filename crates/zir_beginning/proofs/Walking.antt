@@ -1,19 +1,15 @@
 -- In a typed program each initial value uses only what stands before it.
-use Rattle.std.specs.Prelude.{ℕ, zero, suc, ◌<◌, List, [], ◌∷◌, ◌++◌, Option, Some, None, false, ◌≡◌, refl, nat_eq, length, slice_get, take}
+use Rattle.std.specs.Prelude.{ℕ, zero, suc, ◌<◌, List, [], ◌∷◌, ◌++◌, Option, Some, ◌≡◌, refl, length, slice_get, take}
 use Rattle.std.proofs.Common.{ap, sym, subst, ◌∙◌, arith}
 use Rattle.std.proofs.lemmas.List.{append-nil, append_assoc}
 use Rattle.zir_tree.specs.declared.types.Field.{Field}
 use Rattle.zir_tree.specs.declared.stmt.Var.{Var}
-use Rattle.zir_tree.specs.declared.stmt.Stmt.{Stmt, Var as VarStmt, Assign, Call as CallStmt, Error, If', IfElse', While', For', Row_of-Stmt, end_of-Stmt, more_of-Stmt}
-use Rattle.zir_tree.specs.declared.program.Struct.{Struct}
 use Rattle.zir_tree.specs.declared.program.Function.{Function}
-use Rattle.zir_tree.specs.declared.program.CompFunction.{CompFunction}
 use Rattle.zir_tree.specs.declared.program.Decl.{Decl}
 use Rattle.zir_tree.specs.declared.program.Decl.TheVariants.{Var as VarDecl, Struct as StructDecl, Function as FunctionDecl, Comp as CompDecl}
 use Rattle.zir_tree.specs.declared.program.Prog.{Prog}
 use Rattle.zir_tree.specs.declared.program.Core.{Core}
 use Rattle.zir_types.specs.declared.scope.Shape.{Shape}
-use Rattle.zir_types.specs.declared.scope.Seen.{Seen}
 use Rattle.zir_types.specs.declared.scope.Signature.{Signature}
 use Rattle.zir_types.specs.declared.typed.Heading.{Heading}
 use Rattle.zir_types.specs.declared.typed.Written.{Written}
@@ -21,7 +17,7 @@ use Rattle.zir_types.specs.declared.typed.TypedVar.{TypedVar}
 use Rattle.zir_types.specs.declared.typed.TypedBody.{TypedBody}
 use Rattle.zir_types.specs.declared.error.TypeError.TheVariants.{Mismatch}
 use Rattle.zir_types.specs.Walk.{Walk, Fine, and_then}
-use Rattle.zir_types.specs.Scope.{Visible, declare, variable, written}
+use Rattle.zir_types.specs.Scope.{declare, variable, written}
 use Rattle.zir_types.specs.Expressions.{all_same}
 use Rattle.zir_types.specs.Statements.{var, seen_var, fun_body, no_heading, heading, one_more_param}
 use Rattle.zir_types.specs.Components.{Makers, comp, emitted}
@@ -30,75 +26,10 @@ use Rattle.zir_types.proofs.Fine.{first_fine, held, same_fine}
 use Rattle.zir_sound.specs.Statements.{IsBody, IsVar, type_of}
 use Rattle.zir_sound.proofs.Found.{var_sound}
 use Rattle.zir_sound.proofs.Statements.{fun_body_sound, result_if}
-use Rattle.zir_beginning.specs.Uses.{BodyWithin}
-use Rattle.zir_beginning.specs.Order.{Apart, HaveOwnNumbers, Leave, Precedes, ArePreceding, BeginsInOrder, StmtDeclares, BlockDeclares, AllDeclare, ParametersDeclare, FunctionsDeclare, OwnsNumbers}
+use Rattle.zir_beginning.specs.Order.{Apart, HaveOwnNumbers, Leave, ArePreceding, ParametersDeclare, FunctionsDeclare}
 use Rattle.zir_beginning.specs.Laws.{TypedBegin}
+use Rattle.zir_beginning.proofs.Parts.{VarsAre, vars-front, vars-back, declare-front, declare-back, leave-append, apart-back, own-front, functions-wider}
 use Rattle.zir_beginning.proofs.Typing.{AllSeen, seen-append, Allows, allows-more, within-initial, within-body}
-
--- each of these variables has such a number
-abbrev VarsAre : (ℕ → Type 0) → List Var → Type 0
-VarsAre P [] = Unit {0}
-VarsAre P (v ∷ vs) = P v.name.id × VarsAre P vs
-
-vars-front : (P : ℕ → Type 0) (xs ys : List Var) → VarsAre P (xs ++ ys) → VarsAre P xs
-vars-front P [] ys h = tt
-vars-front P (x ∷ xs) ys h = (h.0, vars-front P xs ys h.1)
-
-vars-back : (P : ℕ → Type 0) (xs ys : List Var) → VarsAre P (xs ++ ys) → VarsAre P ys
-vars-back P [] ys h = h
-vars-back P (x ∷ xs) ys h = vars-back P xs ys h.1
-
--- parts of lists of functions
-declare-front : (P : ℕ → Type 0) (xs ys : List Function) → FunctionsDeclare P (xs ++ ys) → FunctionsDeclare P xs
-declare-front P [] ys h = tt
-declare-front P (x ∷ xs) ys h = (h.0, h.1, declare-front P xs ys h.2)
-
-declare-back : (P : ℕ → Type 0) (xs ys : List Function) → FunctionsDeclare P (xs ++ ys) → FunctionsDeclare P ys
-declare-back P [] ys h = h
-declare-back P (x ∷ xs) ys h = declare-back P xs ys h.2
-
-leave-append : (later : List Var) (xs ys : List Function) → Leave later xs → Leave later ys → Leave later (xs ++ ys)
-leave-append later [] ys h k = k
-leave-append later (x ∷ xs) ys h k = (h.0, leave-append later xs ys h.1 k)
-
--- apart from variables is apart from the last of them
-apart-back : (xs ys : List Var) (id : ℕ) → Apart (xs ++ ys) id → Apart ys id
-apart-back [] ys id h = h
-apart-back (x ∷ xs) ys id h = apart-back xs ys id h.1
-
--- where no two have one number the first ones are apart from the others
-own-front : (xs ys : List Var) → HaveOwnNumbers (xs ++ ys) → VarsAre (Apart ys) xs
-own-front [] ys h = tt
-own-front (x ∷ xs) ys h = (apart-back xs ys x.name.id h.0, own-front xs ys h.1)
-
-mutual
-  -- what is so for fewer numbers is so for more
-  stmt-wider : (P R : ℕ → Type 0) → ((id : ℕ) → P id → R id) → (a : Stmt) → StmtDeclares P a → StmtDeclares R a
-  stmt-wider P R w (VarStmt v) d = w v.name.id d
-  stmt-wider P R w (Assign name path e) d = tt
-  stmt-wider P R w (CallStmt name k es) d = tt
-  stmt-wider P R w (Error text p) d = tt
-  stmt-wider P R w (If' e _ a p) d = block-wider P R w a d
-  stmt-wider P R w (IfElse' e _ a _ b p) d = (block-wider P R w a d.0, block-wider P R w b d.1)
-  stmt-wider P R w (While' e _ a p) d = block-wider P R w a d
-  stmt-wider P R w (For' name a m _ b p) d = (w name.id d.0, block-wider P R w b d.1)
-
-  block-wider : {m : _} (P R : ℕ → Type 0) → ((id : ℕ) → P id → R id) → (row : Row_of-Stmt m) → BlockDeclares P row → BlockDeclares R row
-  block-wider P R w end_of-Stmt d = tt
-  block-wider P R w (more_of-Stmt a row) d = (stmt-wider P R w a d.0, block-wider P R w row d.1)
-
-all-wider : (P R : ℕ → Type 0) → ((id : ℕ) → P id → R id) → (ss : List Stmt) → AllDeclare P ss → AllDeclare R ss
-all-wider P R w [] d = tt
-all-wider P R w (a ∷ ss) d = (stmt-wider P R w a d.0, all-wider P R w ss d.1)
-
-parameters-wider : (P R : ℕ → Type 0) → ((id : ℕ) → P id → R id) → (ps : List Field) → ParametersDeclare P ps → ParametersDeclare R ps
-parameters-wider P R w [] d = tt
-parameters-wider P R w (p ∷ ps) d = (w p.name.id d.0, parameters-wider P R w ps d.1)
-
-functions-wider : (P R : ℕ → Type 0) → ((id : ℕ) → P id → R id) → (fs : List Function) → FunctionsDeclare P fs → FunctionsDeclare R fs
-functions-wider P R w [] d = tt
-functions-wider P R w (f ∷ fs) d =
-    (parameters-wider P R w f.params d.0, all-wider P R w f.body.statements d.1, functions-wider P R w fs d.2)
 
 -- what is found has a place before the end
 place-below : {A : Type 0} (xs : List A) (k : ℕ) (x : A) → slice_get xs k ≡ Some x → k < length xs
@@ -293,11 +224,11 @@ nothing-fits : Fits Programs.none_declared
 nothing-fits = record { variables = λ P h. tt; count = refl; functions = λ later h k. tt }
 
 -- what the core of a program has of its declarations
-record Taken (d : Programs.Declared) (core : Core) : Type 0 where
-  variables : d.variables ≡ core.variables
-  functions : d.functions ≡ core.functions
+pub record Taken (d : Programs.Declared) (core : Core) : Type 0 where
+  pub variables : d.variables ≡ core.variables
+  pub functions : d.functions ≡ core.functions
 
-main-taken : (p : Prog) (d : Programs.Declared) (core : Core) → Programs.main_of p d ≡ Fine core → Taken d core
+pub main-taken : (p : Prog) (d : Programs.Declared) (core : Core) → Programs.main_of p d ≡ Fine core → Taken d core
 main-taken p d core h =
     let mk : Makers = Programs.makers d.scope d.comps in
     let a = first_fine (Programs.stream d.scope.shapes p.input) (λ a. and_then (comp mk d.scope 0 a p.main []) (λ r. and_then

@@ -4,6 +4,9 @@ use Rattle.zir_tree.specs.declared.value.Val.{Unit as UnitVal}
 use Rattle.zir_tree.specs.declared.value.Slot.{Slot}
 use Rattle.zir_tree.specs.declared.program.Core.{Core}
 use Rattle.zir_tree.specs.declared.program.Prog.{Prog}
+use Rattle.zir_names.specs.declared.program.Named.{Named}
+use Rattle.zir_names.specs.Walk.{Fine as Resolved}
+use Rattle.zir_names.specs.Programs.{names}
 use Rattle.zir_types.specs.Walk.{Fine}
 use Rattle.zir_types.specs.Programs.{program}
 use Rattle.zir_meaning.specs.Trace.{State}
@@ -35,3 +38,7 @@ InitialsBegin =
 -- in the core of a typed program each initial value uses only what stands before it, where the top variables have numbers of their own
 abbrev pub TypedBegin : Type 0
 TypedBegin = (p : Prog) (core : Core) → program p ≡ Fine core → OwnsNumbers core → BeginsInOrder core
+
+-- in the core of a program with its names resolved the top variables have numbers of their own, which no function declares
+abbrev pub NumbersAreOwn : Type 0
+NumbersAreOwn = (p : Prog) (n : Named) (core : Core) → names p ≡ Resolved n → program n.program ≡ Fine core → OwnsNumbers core

@@ -1,5 +1,5 @@
 -- Programs whose initial values use only what stands before them.
-use Rattle.std.specs.Prelude.{ℕ, ◌<◌, List, [], ◌∷◌, Option, Some, None, false, ◌≡◌, nat_eq, take}
+use Rattle.std.specs.Prelude.{ℕ, ◌<◌, List, [], ◌∷◌, Option, false, ◌≡◌, nat_eq, take}
 use Rattle.zir_tree.specs.declared.expr.Expr.{Expr}
 use Rattle.zir_tree.specs.declared.types.Field.{Field}
 use Rattle.zir_tree.specs.declared.stmt.Var.{Var}

@@ -2,7 +2,7 @@
 #![tactic(auto)]
 
 ghost use Rattle.zir_beginning.specs.Code.{CodeBegins};
-ghost use Rattle.zir_beginning.specs.Laws.{InitialsBegin, TypedBegin};
+ghost use Rattle.zir_beginning.specs.Laws.{InitialsBegin, NumbersAreOwn, TypedBegin};
 
 /// Assigning all initial values to blank variables ends as declaring one variable after the other, where each value uses only what stands before it.
 pub fn initials_begin()
@@ -12,6 +12,11 @@ pub fn initials_begin()
 /// In the core of a typed program each initial value uses only what stands before it.
 pub fn typed_begin()
     ensures { TypedBegin }
+{}
+
+/// Where names are resolved the top variables of a typed program have numbers of their own, which no function declares.
+pub fn numbers_own()
+    ensures { NumbersAreOwn }
 {}
 
 /// Over a new frame a run of the code of initial values ends as the program begins.

@@ -202,7 +202,7 @@ params_later a before (f ∷ fs) z h =
     (programs.and_name before f.name) fs y k))
     (last (λ fs'. record { name = numbered a f.name; ty = ty } ∷ fs') z))) h
 
-entered_next : (fs : List Field) (a : Seen) → (programs.entered fs a).next ≡ a.next
+pub entered_next : (fs : List Field) (a : Seen) → (programs.entered fs a).next ≡ a.next
 entered_next [] a = refl
 entered_next (f ∷ fs) a = entered_next fs (opened kind.Fixed f.name a)
 
