@@ -19,13 +19,13 @@ use Rattle.zir_meaning.specs.Run.{declare, top_values}
 use Rattle.zir_eval.specs.Opening.{blank_slots, initially, initial_assignments}
 use Rattle.zir_beginning.specs.Order.{Apart, HaveOwnNumbers, Precedes, ArePreceding}
 use Rattle.zir_beginning.specs.Laws.{with_more, EndsAs, InitialsBegin}
-use Rattle.zir_beginning.proofs.Changing.{Change, changed, changed_end, SparesAll, Spared, commutes-ev}
+use Rattle.zir_beginning.proofs.Changing.{OtherTops, changed, changed_end, SparesAll, Spared, commutes-ev}
 use Rattle.zir_beginning.proofs.Sparing.{AreOther, put-none, put-append, spares-more, spares-put}
 use Rattle.zir_beginning.proofs.Calling.{spared-first}
 use Rattle.zir_beginning.proofs.Leaving.{Within, leaves-ev, leaves-library}
 
 -- a change that spares some variables spares fewer
-spares-fewer : (c : Change) (P R : ℕ → Type 0) → SparesAll c P → ((id : ℕ) → R id → P id) → SparesAll c R
+spares-fewer : (c : OtherTops) (P R : ℕ → Type 0) → SparesAll c P → ((id : ℕ) → R id → P id) → SparesAll c R
 spares-fewer c P R h less = record {
   found = λ tops id r. h.found tops id (less id r);
   puts = λ tops id v r. h.puts tops id v (less id r);
@@ -118,9 +118,9 @@ begin-end ds fs v vs own next (Got w s) bare free =
     let slots : List Slot = blank_slots (blanks_of ds) (v ∷ vs) in
     subst (λ store. EndsAs (top_values l vs (declare v.name.id w s)) (does_all l (initial_assignments vs) (record s { store = store })))
     (ap (λ tops. let store : Store = record { tops = tops; locals = s.store.locals } in store)
-        (sym (first-put v vs (blanks_of ds) w s.store.tops own free))
+    (sym (first-put v vs (blanks_of ds) w s.store.tops own free))
     ∙ ap (λ locals. let store : Store = record { tops = put v.name.id w (s.store.tops ++ slots); locals = locals } in store)
-        (sym (put-nothing v.name.id w s.store.locals bare)))
+    (sym (put-nothing v.name.id w s.store.locals bare)))
     (next (declare v.name.id w s) bare (declared-free v vs w s.store.tops own free))
 begin-end ds fs v vs own next (Traps t s) bare free = (blank_slots (blanks_of ds) (v ∷ vs), refl)
 begin-end ds fs v vs own next RunsOut bare free = refl
@@ -134,19 +134,19 @@ begin-one ds fs v None vs own p next s bare free =
     let w : Val = blank (blanks_of ds) (type_of v.ty) in
     let l = library_of ds fs in
     subst (λ tops. EndsAs (top_values l vs (declare v.name.id w s))
-        (does_all l (initial_assignments vs) (record s { store = record s.store { tops = tops } })))
+    (does_all l (initial_assignments vs) (record s { store = record s.store { tops = tops } })))
     (append_assoc s.store.tops (record { id = v.name.id; value = w } ∷ []) (blank_slots (blanks_of ds) vs))
     (next (declare v.name.id w s) bare (declared-free v vs w s.store.tops own free))
 begin-one ds fs v (Some e) vs own p next s bare free =
     let l = library_of ds fs in
     let slots : List Slot = blank_slots (blanks_of ds) (v ∷ vs) in
-    let c : Change = λ tops. tops ++ slots in
+    let c : OtherTops = λ tops. tops ++ slots in
     let spares : SparesAll c (Apart (v ∷ vs)) =
     spares-fewer c (AreOther slots) (Apart (v ∷ vs)) (spares-more slots) (other-slots (blanks_of ds) (v ∷ vs)) in
     let moves : ev l e (changed c s) ≡ changed_end c (ev l e s) =
     commutes-ev c l (Apart (v ∷ vs)) (λ k. k < p.count) (spared-first c (v ∷ vs) ds fs p.count spares p.first) e p.value s in
     subst (λ r. EndsAs (then_eval (ev l e s) (λ w s'. top_values l vs (declare v.name.id w s')))
-        (then_eval (then_eval r (λ w s'. Got UnitVal (assign v.name.id w s'))) (λ u s'. does_all l (initial_assignments vs) s')))
+    (then_eval (then_eval r (λ w s'. Got UnitVal (assign v.name.id w s'))) (λ u s'. does_all l (initial_assignments vs) s')))
     (sym moves)
     (begin-end ds fs v vs own next (ev l e s) (leaves-ev l (leaves-library ds fs) e [] s bare) (free-ev ds fs (v ∷ vs) e p s free))
 

@@ -11,17 +11,17 @@ use Rattle.zir_meaning.specs.Trace.{State}
 use Rattle.zir_meaning.specs.Evaluation.{Eval, Funs, Library}
 use Rattle.zir_meaning.specs.Statements.{run_body}
 use Rattle.zir_meaning.specs.Functions.{called_fun, pick, no_funs, one_more_fun, more_funs, library_of}
-use Rattle.zir_beginning.specs.Order.{Apart, Leave}
-use Rattle.zir_beginning.proofs.Changing.{Change, SparesAll, Commutes, Spared, commutes-call, commutes-body}
+use Rattle.zir_beginning.specs.Order.{Apart, AreApart}
+use Rattle.zir_beginning.proofs.Changing.{OtherTops, SparesAll, Commutes, Spared, commutes-call, commutes-body}
 
-commutes-pick : (c : Change) (b : Bool) (f g : List Val → State → Eval) (vs : List Val) → Commutes c (f vs) → Commutes c (g vs) →
+commutes-pick : (c : OtherTops) (b : Bool) (f g : List Val → State → Eval) (vs : List Val) → Commutes c (f vs) → Commutes c (g vs) →
     Commutes c (pick b f g vs)
 commutes-pick c true f g vs h k = h
 commutes-pick c false f g vs h k = k
 
 -- functions behind others
-commutes-more : (c : Change) (later : List Var) → SparesAll c (Apart later) → (blanks : List Val) (funs : Funs) (n : ℕ) (fs : List Function) →
-    ((k : ℕ) (vs : List Val) → Commutes c (funs k vs)) → Leave later fs → (k : ℕ) (vs : List Val) → Commutes c (more_funs blanks funs n fs k vs)
+commutes-more : (c : OtherTops) (later : List Var) → SparesAll c (Apart later) → (blanks : List Val) (funs : Funs) (n : ℕ) (fs : List Function) →
+    ((k : ℕ) (vs : List Val) → Commutes c (funs k vs)) → AreApart later fs → (k : ℕ) (vs : List Val) → Commutes c (more_funs blanks funs n fs k vs)
 commutes-more c later spares blanks funs n [] h u = h
 commutes-more c later spares blanks funs n (f ∷ fs) h u =
     let l : Library = record { blanks = blanks; funs = funs } in
@@ -50,8 +50,8 @@ first-alone blanks funs n (f ∷ fs) zero j lt = sym (place-before blanks funs n
 first-alone blanks funs n (f ∷ fs) (suc k) j lt = first-alone blanks (one_more_fun blanks funs n f) (suc n) fs k j (omega arith)
 
 -- where the first functions of a program use none of some variables
-pub spared-first : (c : Change) (later : List Var) (ds : List StructDef) (fs : List Function) (count : ℕ) → SparesAll c (Apart later) →
-    Leave later (take count fs) → Spared c (library_of ds fs) (Apart later) (λ k. k < count)
+pub spared-first : (c : OtherTops) (later : List Var) (ds : List StructDef) (fs : List Function) (count : ℕ) → SparesAll c (Apart later) →
+    AreApart later (take count fs) → Spared c (library_of ds fs) (Apart later) (λ k. k < count)
 spared-first c later ds fs count spares u = record {
   variables = spares;
   functions = λ k lt vs. subst (λ p. Commutes c (p vs)) (first-alone (blanks_of ds) no_funs 0 fs count k (omega (arith, lt)))

@@ -27,108 +27,108 @@ use Rattle.zir_meaning.specs.Functions.{entered, returned, called_fun}
 use Rattle.zir_beginning.specs.Uses.{CalleeWithin, ExprWithin, RowWithin, ArgumentsWithin, PathWithin, InitialWithin, StmtWithin, BlockWithin, AllWithin, ResultWithin, BodyWithin}
 
 -- other top variables
-abbrev pub Change : Type 0
-Change = List Slot → List Slot
+abbrev pub OtherTops : Type 0
+OtherTops = List Slot → List Slot
 
 -- a state with other top variables
-abbrev pub changed : Change → State → State
+abbrev pub changed : OtherTops → State → State
 changed c s = record s { store = record s.store { tops = c s.store.tops } }
 
 -- an end with other top variables
-abbrev pub changed_end : Change → Eval → Eval
+abbrev pub changed_end : OtherTops → Eval → Eval
 changed_end c (Got v s) = Got v (changed c s)
 changed_end c (Traps t s) = Traps t (changed c s)
 changed_end c RunsOut = RunsOut
 
 -- a change spares the variables of these numbers
-pub record SparesAll (c : Change) (P : ℕ → Type 0) : Type 0 where
+pub record SparesAll (c : OtherTops) (P : ℕ → Type 0) : Type 0 where
   pub found : (tops : List Slot) (id : ℕ) → P id → found_or UnitVal (c tops) id ≡ found_or UnitVal tops id
   pub puts : (tops : List Slot) (id : ℕ) (v : Val) → P id → put id v (c tops) ≡ c (put id v tops)
 
 -- an evaluation does the same before a change and behind it
-abbrev pub Commutes : Change → (State → Eval) → Type 0
+abbrev pub Commutes : OtherTops → (State → Eval) → Type 0
 Commutes c f = (s : State) → f (changed c s) ≡ changed_end c (f s)
 
 -- an end, and what follows it
-then-end : (c : Change) (r : Eval) (g : Val → State → Eval) → ((v : Val) → Commutes c (g v)) →
+then-end : (c : OtherTops) (r : Eval) (g : Val → State → Eval) → ((v : Val) → Commutes c (g v)) →
     then_eval (changed_end c r) g ≡ changed_end c (then_eval r g)
 then-end c (Got v s) g h = h v s
 then-end c (Traps t s) g h = refl
 then-end c RunsOut g h = refl
 
 -- an evaluation, and where it has a value what follows
-commutes-then : (c : Change) (f : State → Eval) (g : Val → State → Eval) → Commutes c f → ((v : Val) → Commutes c (g v)) →
+commutes-then : (c : OtherTops) (f : State → Eval) (g : Val → State → Eval) → Commutes c f → ((v : Val) → Commutes c (g v)) →
     Commutes c (λ s. then_eval (f s) g)
 commutes-then c f g h k = λ s. ap (λ r. then_eval r g) (h s) ∙ then-end c (f s) g k
 
 -- a value
-commutes-got : (c : Change) (v : Val) → Commutes c (λ s. Got v s)
+commutes-got : (c : OtherTops) (v : Val) → Commutes c (λ s. Got v s)
 commutes-got c v = λ s. refl
 
 -- a trap
-commutes-trap : (c : Change) (code : ℕ) (p : Place) → Commutes c (λ s. trap code p s)
+commutes-trap : (c : OtherTops) (code : ℕ) (p : Place) → Commutes c (λ s. trap code p s)
 commutes-trap c code p = λ s. refl
 
 -- an evaluation that begins with a value that it reads
-commutes-reads : (c : Change) (read : State → Val) (f : Val → State → Eval) → ((s : State) → read (changed c s) ≡ read s) →
+commutes-reads : (c : OtherTops) (read : State → Val) (f : Val → State → Eval) → ((s : State) → read (changed c s) ≡ read s) →
     ((v : Val) → Commutes c (f v)) → Commutes c (λ s. f (read s) s)
 commutes-reads c read f e h = λ s. ap (λ v. f v (changed c s)) (e s) ∙ h (read s) s
 
 -- one of two
-commutes-choose : (c : Change) (b : Bool) (f g : State → Eval) → Commutes c f → Commutes c g → Commutes c (λ s. choose_eval b f g s)
+commutes-choose : (c : OtherTops) (b : Bool) (f g : State → Eval) → Commutes c f → Commutes c g → Commutes c (λ s. choose_eval b f g s)
 commutes-choose c true f g h k = h
 commutes-choose c false f g h k = k
 
 -- what was found, or a trap
-commutes-found : (c : Change) (code : ℕ) (p : Place) (o : Option Val) (next : Val → State → Eval) → ((v : Val) → Commutes c (next v)) →
+commutes-found : (c : OtherTops) (code : ℕ) (p : Place) (o : Option Val) (next : Val → State → Eval) → ((v : Val) → Commutes c (next v)) →
     Commutes c (λ s. found code p o s next)
 commutes-found c code p None next h = commutes-trap c code p
 commutes-found c code p (Some v) next h = h v
 
 -- one of these ticks, and then an evaluation
-commutes-tick_of : (c : Change) (l : ℕ) (f : State → Eval) → Commutes c f → Commutes c (λ s. tick_eval_of l s f)
+commutes-tick_of : (c : OtherTops) (l : ℕ) (f : State → Eval) → Commutes c f → Commutes c (λ s. tick_eval_of l s f)
 commutes-tick_of c zero f h = λ s. refl
 commutes-tick_of c (suc l) f h = λ s. h (record s { ticks = s.ticks + 1; left = l })
 
 -- one tick, and then an evaluation
-commutes-tick : (c : Change) (f : State → Eval) → Commutes c f → Commutes c (λ s. tick_eval s f)
+commutes-tick : (c : OtherTops) (f : State → Eval) → Commutes c f → Commutes c (λ s. tick_eval s f)
 commutes-tick c f h = λ s. commutes-tick_of c s.left f h s
 
 -- names leave the scope
-left_by-end : (c : Change) (n : ℕ) (r : Eval) → left_by n (changed_end c r) ≡ changed_end c (left_by n r)
+left_by-end : (c : OtherTops) (n : ℕ) (r : Eval) → left_by n (changed_end c r) ≡ changed_end c (left_by n r)
 left_by-end c n (Got v s) = refl
 left_by-end c n (Traps t s) = refl
 left_by-end c n RunsOut = refl
 
 -- a scope
-commutes-scope : (c : Change) (f : State → Eval) → Commutes c f → Commutes c (λ s. scope f s)
+commutes-scope : (c : OtherTops) (f : State → Eval) → Commutes c f → Commutes c (λ s. scope f s)
 commutes-scope c f h = λ s. ap (left_by (depth s.store)) (h s) ∙ left_by-end c (depth s.store) (f s)
 
 -- the names of a caller are in scope again
-returned-end : (c : Change) (locals : List Slot) (r : Eval) → returned locals (changed_end c r) ≡ changed_end c (returned locals r)
+returned-end : (c : OtherTops) (locals : List Slot) (r : Eval) → returned locals (changed_end c r) ≡ changed_end c (returned locals r)
 returned-end c locals (Got v s) = refl
 returned-end c locals (Traps t s) = refl
 returned-end c locals RunsOut = refl
 
 -- a call of a body
-pub commutes-call : (c : Change) (ps : List Field) (body : State → Eval) (vs : List Val) → Commutes c body → Commutes c (λ s. called_fun ps body vs s)
+pub commutes-call : (c : OtherTops) (ps : List Field) (body : State → Eval) (vs : List Val) → Commutes c body → Commutes c (λ s. called_fun ps body vs s)
 commutes-call c ps body vs h = λ s.
     ap (returned s.store.locals) (h (entered ps vs s)) ∙ returned-end c s.store.locals (body (entered ps vs s))
 
 -- what an operator computes
-commutes-computed : (c : Change) (x : Computed) (p : Place) → Commutes c (λ s. computed_at x p s)
+commutes-computed : (c : OtherTops) (x : Computed) (p : Place) → Commutes c (λ s. computed_at x p s)
 commutes-computed c (Gives v) p = commutes-got c v
 commutes-computed c (Fails code) p = commutes-trap c code p
 
 -- both sides
-commutes-both : (c : Change) (o : Operator) (t : Base) (p : Place) (f g : State → Eval) → Commutes c f → Commutes c g →
+commutes-both : (c : OtherTops) (o : Operator) (t : Base) (p : Place) (f g : State → Eval) → Commutes c f → Commutes c g →
     Commutes c (λ s. both_sides o t p (f s) g)
 commutes-both c o t p f g h k =
     commutes-then c f (λ v s. then_eval (g s) (λ w s'. computed_at (computed o t v w) p s')) h
     (λ v. commutes-then c g (λ w s'. computed_at (computed o t v w) p s') k (λ w. commutes-computed c (computed o t v w) p))
 
 -- an operator with its sides
-commutes-sides : (c : Change) (o : Operator) (t : Base) (p : Place) (f g : State → Eval) → Commutes c f → Commutes c g →
+commutes-sides : (c : OtherTops) (o : Operator) (t : Base) (p : Place) (f g : State → Eval) → Commutes c f → Commutes c g →
     Commutes c (λ s. two_sided o t p (f s) g)
 commutes-sides c Or t p f g h k =
     commutes-then c f (λ v s. choose_eval (is_one v) (λ s'. Got v s') g s) h
@@ -154,24 +154,24 @@ commutes-sides c Divide t p f g h k = commutes-both c Divide t p f g h k
 commutes-sides c Remainder t p f g h k = commutes-both c Remainder t p f g h k
 
 -- a change spares the variables of these numbers, and each of these functions does the same before it and behind it
-pub record Spared (c : Change) (l : Library) (P Q : ℕ → Type 0) : Type 0 where
+pub record Spared (c : OtherTops) (l : Library) (P Q : ℕ → Type 0) : Type 0 where
   pub variables : SparesAll c P
   pub functions : (k : ℕ) → Q k → (vs : List Val) → Commutes c (l.funs k vs)
 
 -- the value of a variable
-same-look_up : (c : Change) (l : Library) (P Q : ℕ → Type 0) → Spared c l P Q → (id : ℕ) → P id → (s : State) →
+same-look_up : (c : OtherTops) (l : Library) (P Q : ℕ → Type 0) → Spared c l P Q → (id : ℕ) → P id → (s : State) →
     look_up (changed c s).store id ≡ look_up s.store id
 same-look_up c l P Q h id u s = ap (λ v. found_or v s.store.locals id) (h.variables.found s.store.tops id u)
 
 -- a call with the values of its arguments
-commutes-called : (c : Change) (l : Library) (P Q : ℕ → Type 0) → Spared c l P Q → (callee : Callee) → CalleeWithin Q callee → (vs : List Val) →
+commutes-called : (c : OtherTops) (l : Library) (P Q : ℕ → Type 0) → Spared c l P Q → (callee : Callee) → CalleeWithin Q callee → (vs : List Val) →
     Commutes c (λ s. called_by l callee vs s)
 commutes-called c l P Q h (Function k) u vs = commutes-tick c (l.funs k vs) (h.functions k u vs)
 commutes-called c l P Q h (Struct k) u vs = commutes-got c (Vals vs)
 
 mutual
   -- each expression
-  pub commutes-ev : (c : Change) (l : Library) (P Q : ℕ → Type 0) → Spared c l P Q → (e : Expr) → ExprWithin P Q e → Commutes c (λ s. ev l e s)
+  pub commutes-ev : (c : OtherTops) (l : Library) (P Q : ℕ → Type 0) → Spared c l P Q → (e : Expr) → ExprWithin P Q e → Commutes c (λ s. ev l e s)
   commutes-ev c l P Q h (Unit p) u = commutes-got c UnitVal
   commutes-ev c l P Q h (Bit b p) u = commutes-got c (BitVal b)
   commutes-ev c l P Q h (BoolLiteral b p) u = commutes-got c (BoolVal b)
@@ -204,7 +204,7 @@ mutual
       (λ w. commutes-got c (Pair (num_of v) (num_of w))))
 
   -- more expressions, and what follows them
-  commutes-all : {m : _} (c : Change) (l : Library) (P Q : ℕ → Type 0) → Spared c l P Q → (es : Row_of-Expr m) → RowWithin P Q es → (vs : List Val)
+  commutes-all : {m : _} (c : OtherTops) (l : Library) (P Q : ℕ → Type 0) → Spared c l P Q → (es : Row_of-Expr m) → RowWithin P Q es → (vs : List Val)
       (next : List Val → State → Eval) → ((vs : List Val) → Commutes c (next vs)) → Commutes c (λ s. ev_all l es vs s next)
   commutes-all c l P Q h end_of-Expr u vs next k = k vs
   commutes-all c l P Q h (more_of-Expr e es) u vs next k =
@@ -212,7 +212,7 @@ mutual
       (λ v. commutes-all c l P Q h es u.1 (vs ++ v ∷ []) next k)
 
 -- a list of expressions, and what follows them
-commutes-list : (c : Change) (l : Library) (P Q : ℕ → Type 0) → Spared c l P Q → (es : List Expr) → ArgumentsWithin P Q es → (vs : List Val)
+commutes-list : (c : OtherTops) (l : Library) (P Q : ℕ → Type 0) → Spared c l P Q → (es : List Expr) → ArgumentsWithin P Q es → (vs : List Val)
     (next : List Val → State → Eval) → ((vs : List Val) → Commutes c (next vs)) → Commutes c (λ s. ev_list l es vs s next)
 commutes-list c l P Q h [] u vs next k = k vs
 commutes-list c l P Q h (e ∷ es) u vs next k =
@@ -220,7 +220,7 @@ commutes-list c l P Q h (e ∷ es) u vs next k =
     (λ v. commutes-list c l P Q h es u.1 (vs ++ v ∷ []) next k)
 
 -- the indexes of a path, and what follows them
-commutes-along : (c : Change) (l : Library) (P Q : ℕ → Type 0) → Spared c l P Q → (path : List Access) → PathWithin P Q path → (old : Val)
+commutes-along : (c : OtherTops) (l : Library) (P Q : ℕ → Type 0) → Spared c l P Q → (path : List Access) → PathWithin P Q path → (old : Val)
     (next : List Step → State → Eval) → ((steps : List Step) → Commutes c (next steps)) → Commutes c (λ s. along l path old s next)
 commutes-along c l P Q h [] u old next k = k []
 commutes-along c l P Q h (Index e p ∷ path) u old next k =
@@ -241,19 +241,19 @@ commutes-along c l P Q h (Part name n p ∷ path) u old next k =
     commutes-along c l P Q h path u (part_of n old) (λ steps t. next (ToPart n ∷ steps) t) (λ steps. k (ToPart n ∷ steps))
 
 -- the value of a declaration
-pub commutes-initial : (c : Change) (l : Library) (P Q : ℕ → Type 0) → Spared c l P Q → (t : TypeExpr) (e : Option Expr) → InitialWithin P Q e →
+pub commutes-initial : (c : OtherTops) (l : Library) (P Q : ℕ → Type 0) → Spared c l P Q → (t : TypeExpr) (e : Option Expr) → InitialWithin P Q e →
     Commutes c (λ s. initial_of l t e s)
 commutes-initial c l P Q h t None u = commutes-got c (blank l.blanks (type_of t))
 commutes-initial c l P Q h t (Some e) u = commutes-ev c l P Q h e u
 
 -- an assignment
-commutes-assign : (c : Change) (l : Library) (P Q : ℕ → Type 0) → Spared c l P Q → (id : ℕ) → P id → (v : Val) →
+commutes-assign : (c : OtherTops) (l : Library) (P Q : ℕ → Type 0) → Spared c l P Q → (id : ℕ) → P id → (v : Val) →
     Commutes c (λ s. Got UnitVal (assign id v s))
 commutes-assign c l P Q h id u v = λ s.
     ap (λ tops. Got UnitVal (record s { store = record { tops = tops; locals = put id v s.store.locals } })) (h.variables.puts s.store.tops id v u)
 
 -- a loop
-commutes-while : (c : Change) (most : ℕ) (test body : State → Eval) → Commutes c test → Commutes c body → Commutes c (λ s. while_eval most test body s)
+commutes-while : (c : OtherTops) (most : ℕ) (test body : State → Eval) → Commutes c test → Commutes c body → Commutes c (λ s. while_eval most test body s)
 commutes-while c zero test body h k =
     commutes-then c test (λ v s'. choose_eval (is_one v) (λ s''. RunsOut) done s') h
     (λ v. commutes-choose c (is_one v) (λ s''. RunsOut) done (λ s. refl) (commutes-got c UnitVal))
@@ -265,7 +265,7 @@ commutes-while c (suc most) test body h k =
     (commutes-got c UnitVal))
 
 -- a loop of so many turns
-commutes-counted : (c : Change) (most id : ℕ) (i : ℤ) (body : State → Eval) → Commutes c body → Commutes c (λ s. counted_eval most id i body s)
+commutes-counted : (c : OtherTops) (most id : ℕ) (i : ℤ) (body : State → Eval) → Commutes c body → Commutes c (λ s. counted_eval most id i body s)
 commutes-counted c zero id i body h = commutes-got c UnitVal
 commutes-counted c (suc most) id i body h =
     commutes-tick c (λ s1. then_eval (scope (λ s2. body (bind id (Num i) s2)) s1) (λ w s3. counted_eval most id (next_index i) body s3))
@@ -275,7 +275,7 @@ commutes-counted c (suc most) id i body h =
 
 mutual
   -- each statement
-  commutes-does : (c : Change) (l : Library) (P Q : ℕ → Type 0) → Spared c l P Q → (a : Stmt) → StmtWithin P Q a → Commutes c (λ s. does l a s)
+  commutes-does : (c : OtherTops) (l : Library) (P Q : ℕ → Type 0) → Spared c l P Q → (a : Stmt) → StmtWithin P Q a → Commutes c (λ s. does l a s)
   commutes-does c l P Q h (VarStmt v) u =
       commutes-then c (initial_of l v.ty v.initial) (λ w s'. Got UnitVal (bind v.name.id w s')) (commutes-initial c l P Q h v.ty v.initial u)
       (λ w s. refl)
@@ -310,27 +310,27 @@ mutual
       (λ w. commutes-counted c (turns_of (num_of w)) name.id (num_of v) (does_row l b) (commutes-row c l P Q h b u.2)))
 
   -- statements one after the other
-  commutes-row : {m : _} (c : Change) (l : Library) (P Q : ℕ → Type 0) → Spared c l P Q → (row : Row_of-Stmt m) → BlockWithin P Q row →
+  commutes-row : {m : _} (c : OtherTops) (l : Library) (P Q : ℕ → Type 0) → Spared c l P Q → (row : Row_of-Stmt m) → BlockWithin P Q row →
       Commutes c (λ s. does_row l row s)
   commutes-row c l P Q h end_of-Stmt u = commutes-got c UnitVal
   commutes-row c l P Q h (more_of-Stmt a row) u =
       commutes-then c (does l a) (λ v s'. does_row l row s') (commutes-does c l P Q h a u.0) (λ v. commutes-row c l P Q h row u.1)
 
 -- a list of statements
-commutes-statements : (c : Change) (l : Library) (P Q : ℕ → Type 0) → Spared c l P Q → (row : List Stmt) → AllWithin P Q row →
+commutes-statements : (c : OtherTops) (l : Library) (P Q : ℕ → Type 0) → Spared c l P Q → (row : List Stmt) → AllWithin P Q row →
     Commutes c (λ s. does_all l row s)
 commutes-statements c l P Q h [] u = commutes-got c UnitVal
 commutes-statements c l P Q h (a ∷ row) u =
     commutes-then c (does l a) (λ v s'. does_all l row s') (commutes-does c l P Q h a u.0) (λ v. commutes-statements c l P Q h row u.1)
 
 -- the value of a body
-commutes-result : (c : Change) (l : Library) (P Q : ℕ → Type 0) → Spared c l P Q → (r : Option Return) → ResultWithin P Q r →
+commutes-result : (c : OtherTops) (l : Library) (P Q : ℕ → Type 0) → Spared c l P Q → (r : Option Return) → ResultWithin P Q r →
     Commutes c (λ s. result_of l r s)
 commutes-result c l P Q h None u = commutes-got c UnitVal
 commutes-result c l P Q h (Some r) u = commutes-ev c l P Q h r.value u
 
 -- each body
-pub commutes-body : (c : Change) (l : Library) (P Q : ℕ → Type 0) → Spared c l P Q → (body : Body) → BodyWithin P Q body →
+pub commutes-body : (c : OtherTops) (l : Library) (P Q : ℕ → Type 0) → Spared c l P Q → (body : Body) → BodyWithin P Q body →
     Commutes c (λ s. run_body l body s)
 commutes-body c l P Q h body u =
     commutes-scope c (λ s'. then_eval (does_all l body.statements s') (λ v s''. result_of l body.result s''))

@@ -181,35 +181,37 @@ record Keeps (d z : Programs.Declared) (xs : List Decl) : Type 1 where
   same : SameNumbers (vars_of xs) more
   inner : (P : ℕ → Type 0) → FunctionsDeclare P (functions_of xs) → FunctionsDeclare P others
 
+-- one item behind some, and others behind it
+one-front : {A : Type 0} (xs ys : List A) (x : A) (zs : List A) → zs ≡ (xs ++ x ∷ []) ++ ys → zs ≡ xs ++ x ∷ ys
+one-front {A} xs ys x zs e = e ∙ append_assoc xs (x ∷ []) ys
+
 -- a declaration
 one-keeps : (d e z : Programs.Declared) (x : Decl) (xs : List Decl) → Programs.declaration d x ≡ Fine e → Keeps e z xs → Keeps d z (x ∷ xs)
-one-keeps d e z (VarDecl v) xs h k =
+one-keeps d e z (VarDecl v) xs h =
     let t = first_fine (Statements.var d.scope v) (Programs.with_top d) e h in
     let made : Programs.Declared = record d { scope = declare (Statements.seen_var t.0) d.scope; variables = d.variables ++ t.0.what ∷ [] } in
-    let is = same_fine made e t.2 in
-    record {
+    subst (λ e. Keeps e z xs → Keeps d z (VarDecl v ∷ xs)) {x = made} (same_fine made e t.2) (λ k. record {
       more = t.0.what ∷ k.more;
       others = k.others;
-      variables_are = k.variables_are ∙ ap (λ (c : Programs.Declared). c.variables ++ k.more) (sym {a = made} is) ∙ append_assoc d.variables (t.0.what ∷ []) k.more;
-      functions_are = k.functions_are ∙ ap (λ (c : Programs.Declared). c.functions ++ k.others) (sym {a = made} is);
+      variables_are = one-front d.variables k.more t.0.what z.variables k.variables_are;
+      functions_are = k.functions_are;
       same = (var-keeps d.scope v t.0 t.1, k.same);
       inner = k.inner;
-    }
-one-keeps d e z (StructDecl s) xs h k =
+    })
+one-keeps d e z (StructDecl s) xs h =
     let t = first_fine (Statements.heading d.scope.shapes Statements.no_heading s.fields) (Programs.with_struct d s) e h in
     let made : Programs.Declared = record d {
       scope = record d.scope { shapes = d.scope.shapes ++ Programs.shape_of d.scope.shapes s t.0 ∷ [] };
     } in
-    let is = same_fine made e t.2 in
-    record {
+    subst (λ e. Keeps e z xs → Keeps d z (StructDecl s ∷ xs)) {x = made} (same_fine made e t.2) (λ k. record {
       more = k.more;
       others = k.others;
-      variables_are = k.variables_are ∙ ap (λ (c : Programs.Declared). c.variables ++ k.more) (sym {a = made} is);
-      functions_are = k.functions_are ∙ ap (λ (c : Programs.Declared). c.functions ++ k.others) (sym {a = made} is);
+      variables_are = k.variables_are;
+      functions_are = k.functions_are;
       same = k.same;
       inner = k.inner;
-    }
-one-keeps d e z (FunctionDecl f) xs h k =
+    })
+one-keeps d e z (FunctionDecl f) xs h =
     let body : Heading → Option Written → Walk TypedBody =
     λ hd r. Statements.fun_body (declare hd.seen d.scope) (Programs.written_ty r) f.at f.body in
     let t = first_fine (Statements.heading d.scope.shapes Statements.no_heading f.params) (λ hd. and_then (Programs.result_of d.scope.shapes f.result)
@@ -222,31 +224,29 @@ one-keeps d e z (FunctionDecl f) xs h k =
       scope = record d.scope { functions = d.scope.functions ++ sig ∷ [] };
       functions = d.functions ++ one ∷ [];
     } in
-    let is = same_fine made e b.2 in
-    record {
+    subst (λ e. Keeps e z xs → Keeps d z (FunctionDecl f ∷ xs)) {x = made} (same_fine made e b.2) (λ k. record {
       more = k.more;
       others = one ∷ k.others;
-      variables_are = k.variables_are ∙ ap (λ (c : Programs.Declared). c.variables ++ k.more) (sym {a = made} is);
-      functions_are = k.functions_are ∙ ap (λ (c : Programs.Declared). c.functions ++ k.others) (sym {a = made} is) ∙ append_assoc d.functions (one ∷ []) k.others;
+      variables_are = k.variables_are;
+      functions_are = one-front d.functions k.others one z.functions k.functions_are;
       same = k.same;
       inner = λ P q. (
         heading-keeps P d.scope.shapes Statements.no_heading f.params t.0 t.1 tt q.0,
         body-keeps P (declare t.0.seen d.scope) (Programs.written_ty r.0) f.at f.body b.0 b.1 q.1,
         k.inner P q.2,
       );
-    }
-one-keeps d e z (CompDecl c) xs h k =
+    })
+one-keeps d e z (CompDecl c) xs h =
     let t = first_fine (Statements.heading d.scope.shapes Statements.no_heading c.params) (Programs.with_comp d c) e h in
     let made : Programs.Declared = record d { comps = record { id = c.name.id; head = t.0; body = c.body } ∷ d.comps } in
-    let is = same_fine made e t.2 in
-    record {
+    subst (λ e. Keeps e z xs → Keeps d z (CompDecl c ∷ xs)) {x = made} (same_fine made e t.2) (λ k. record {
       more = k.more;
       others = k.others;
-      variables_are = k.variables_are ∙ ap (λ (c : Programs.Declared). c.variables ++ k.more) (sym {a = made} is);
-      functions_are = k.functions_are ∙ ap (λ (c : Programs.Declared). c.functions ++ k.others) (sym {a = made} is);
+      variables_are = k.variables_are;
+      functions_are = k.functions_are;
       same = k.same;
       inner = k.inner;
-    }
+    })
 
 -- all declarations
 list-keeps : (d z : Programs.Declared) (xs : List Decl) → Programs.declarations d xs ≡ Fine z → Keeps d z xs

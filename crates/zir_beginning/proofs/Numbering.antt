@@ -352,6 +352,8 @@ named-first p n h =
     let output = first (type_of main.0.seen p.output) _ n main.2 in
     let made : Named = record {
       program = record { declarations = ds.0.made; input = input.0; main = main.0.made; output = output.0; at = p.at };
-    } in
-    (ds.0.seen.next, subst (λ (m : Named). Ranged 1 ds.0.seen.next m.program.declarations) (same made n output.2)
-    (ranged-all nothing_seen p.declarations ds.0 ds.1))
+    } in (
+      ds.0.seen.next,
+      subst (λ (m : Named). Ranged 1 ds.0.seen.next m.program.declarations) (same made n output.2)
+          (ranged-all nothing_seen p.declarations ds.0 ds.1),
+    )

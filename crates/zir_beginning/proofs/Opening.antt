@@ -74,7 +74,8 @@ began : (core : Core) (room limit : ℕ) (m m' : Memory) (r q : Eval) (answer : 
     Ran core room m q answer m' → FromHere core room limit r answer m'
 began core room limit m m' (Got v s) q (Ok u) same keeps ran = λ e.
     let went = subst (λ q. Ran core room m q (Ok u) m') same ran in
-    record { state = s; holds = went.holds; taken = keeps.0; limit_is = keeps.2 ∙ (let z : 0 + limit ≡ limit = omega arith in z); goes_on = follows core limit (Got v s) e }
+    let zero : 0 + limit ≡ limit = omega arith in
+    record { state = s; holds = went.holds; taken = keeps.0; limit_is = keeps.2 ∙ zero; goes_on = follows core limit (Got v s) e }
 began core room limit m m' (Got v s) q (Err stop) same keeps ran = absurd (subst (λ q. Ran core room m q (Err stop) m') same ran)
 began core room limit m m' (Traps t s) q (Ok u) same keeps ran = absurd (subst (λ q. Ran core room m q (Ok u) m') same.1 ran)
 began core room limit m m' (Traps t s) q (Err (ByTrap w)) same keeps ran = λ e.

@@ -4,7 +4,7 @@ use Rattle.zir_tree.specs.declared.types.Field.{Field}
 use Rattle.zir_tree.specs.declared.stmt.Var.{Var}
 use Rattle.zir_tree.specs.declared.stmt.Stmt.{Stmt, Var as VarStmt, Assign, Call as CallStmt, Error, If', IfElse', While', For', Row_of-Stmt, end_of-Stmt, more_of-Stmt}
 use Rattle.zir_tree.specs.declared.program.Function.{Function}
-use Rattle.zir_beginning.specs.Order.{Apart, HaveOwnNumbers, Leave, StmtDeclares, BlockDeclares, AllDeclare, ParametersDeclare, FunctionsDeclare}
+use Rattle.zir_beginning.specs.Order.{Apart, HaveOwnNumbers, AreApart, StmtDeclares, BlockDeclares, AllDeclare, ParametersDeclare, FunctionsDeclare}
 
 -- each of these variables has such a number
 abbrev pub VarsAre : (ℕ → Type 0) → List Var → Type 0
@@ -28,7 +28,7 @@ pub declare-back : (P : ℕ → Type 0) (xs ys : List Function) → FunctionsDec
 declare-back P [] ys h = h
 declare-back P (x ∷ xs) ys h = declare-back P xs ys h.2
 
-pub leave-append : (later : List Var) (xs ys : List Function) → Leave later xs → Leave later ys → Leave later (xs ++ ys)
+pub leave-append : (later : List Var) (xs ys : List Function) → AreApart later xs → AreApart later ys → AreApart later (xs ++ ys)
 leave-append later [] ys h k = k
 leave-append later (x ∷ xs) ys h k = (h.0, leave-append later xs ys h.1 k)
 

@@ -154,6 +154,7 @@ within-result P Q g t (Some r) a h = within-ev P Q g t r.value a h
 
 -- each body
 pub within-body : (P Q : ℕ → Type 0) (g : Visible) (t : Ty) (b : Body) → Allows P Q g → AllDeclare P b.statements → IsBody g t b → BodyWithin P Q b
-within-body P Q g t b a d h =
-    (within-all P Q g b.statements a d h.statements,
-    within-result P Q (behind g b.statements) t b.result (allows-behind P Q g b.statements a d) h.result)
+within-body P Q g t b a d h = (
+  within-all P Q g b.statements a d h.statements,
+  within-result P Q (behind g b.statements) t b.result (allows-behind P Q g b.statements a d) h.result,
+)

@@ -26,7 +26,7 @@ use Rattle.zir_types.proofs.Fine.{first_fine, held, same_fine}
 use Rattle.zir_sound.specs.Statements.{IsBody, IsVar, type_of}
 use Rattle.zir_sound.proofs.Found.{var_sound}
 use Rattle.zir_sound.proofs.Statements.{fun_body_sound, result_if}
-use Rattle.zir_beginning.specs.Order.{Apart, HaveOwnNumbers, Leave, ArePreceding, ParametersDeclare, FunctionsDeclare}
+use Rattle.zir_beginning.specs.Order.{Apart, HaveOwnNumbers, AreApart, ArePreceding, ParametersDeclare, FunctionsDeclare}
 use Rattle.zir_beginning.specs.Laws.{TypedBegin}
 use Rattle.zir_beginning.proofs.Parts.{VarsAre, vars-front, vars-back, declare-front, declare-back, leave-append, apart-back, own-front, functions-wider}
 use Rattle.zir_beginning.proofs.Typing.{AllSeen, seen-append, Allows, allows-more, within-initial, within-body}
@@ -73,7 +73,7 @@ parameters-seen P ss done (f ∷ fs) h is e =
 record Fits (d : Programs.Declared) : Type 1 where
   variables : (P : ℕ → Type 0) → VarsAre P d.variables → AllSeen P d.scope.variables
   count : length d.scope.functions ≡ length d.functions
-  functions : (later : List Var) → VarsAre (Apart later) d.variables → FunctionsDeclare (Apart later) d.functions → Leave later d.functions
+  functions : (later : List Var) → VarsAre (Apart later) d.variables → FunctionsDeclare (Apart later) d.functions → AreApart later d.functions
 
 -- what has come to the declarations so far, up to the end
 record Grows (d z : Programs.Declared) : Type 0 where
@@ -95,7 +95,7 @@ other-step d e z f same-variables same-functions same-seen same-signatures = rec
   fits = record {
     variables = λ P h. subst (AllSeen P) same-seen (f.variables P (subst (VarsAre P) (sym same-variables) h));
     count = ap length (sym same-signatures) ∙ f.count ∙ ap length same-functions;
-    functions = λ later h k. subst (Leave later) same-functions
+    functions = λ later h k. subst (AreApart later) same-functions
         (f.functions later (subst (VarsAre (Apart later)) (sym same-variables) h)
         (subst (FunctionsDeclare (Apart later)) (sym same-functions) k));
   };
@@ -131,9 +131,11 @@ function-step d e z f hd r b fits seen body h =
         functions = λ later v k.
             let own = declare-back (Apart later) d.functions (made ∷ []) k in
             let top : Allows (Apart later) (λ k. Unit {0}) d.scope = record { variables = fits.variables (Apart later) v; functions = λ k s e. tt } in
-            leave-append later d.functions (made ∷ []) (fits.functions later v (declare-front (Apart later) d.functions (made ∷ []) k))
-            (within-body (Apart later) (λ k. Unit {0}) (declare hd.seen d.scope) (result_if (Programs.written_ty r)) b.what
-            (allows-more (Apart later) (λ k. Unit {0}) d.scope hd.seen top (seen (Apart later) own.0)) own.1 body, tt);
+            leave-append later d.functions (made ∷ []) (fits.functions later v (declare-front (Apart later) d.functions (made ∷ []) k)) (
+              within-body (Apart later) (λ k. Unit {0}) (declare hd.seen d.scope) (result_if (Programs.written_ty r)) b.what
+                  (allows-more (Apart later) (λ k. Unit {0}) d.scope hd.seen top (seen (Apart later) own.0)) own.1 body,
+              tt,
+            );
       };
       grown = λ g. record {
         more = g.more;
@@ -176,7 +178,7 @@ variable-step d e z v fits is own inner h =
                 count = length d.functions;
                 value = within-initial (Apart later) (λ k. k < length d.functions) d.scope (type_of v.what.ty) v.what.initial
                     (allows-top d (Apart later) fits before) is;
-                first = subst (Leave later) (sym (ap (take (length d.functions)) g.functions_are ∙ take-front d.functions g.others))
+                first = subst (AreApart later) (sym (ap (take (length d.functions)) g.functions_are ∙ take-front d.functions g.others))
                     (fits.functions later before declared);
               },
               g.values,

@@ -19,15 +19,15 @@ HaveOwnNumbers [] = Unit {0}
 HaveOwnNumbers (v ∷ vs) = Apart vs v.name.id × HaveOwnNumbers vs
 
 -- none of these functions uses one of these variables
-abbrev pub Leave : List Var → List Function → Type 0
-Leave later [] = Unit {0}
-Leave later (f ∷ fs) = BodyWithin (Apart later) (λ k. Unit {0}) f.body × Leave later fs
+abbrev pub AreApart : List Var → List Function → Type 0
+AreApart later [] = Unit {0}
+AreApart later (f ∷ fs) = BodyWithin (Apart later) (λ k. Unit {0}) f.body × AreApart later fs
 
 -- an initial value calls some of the first functions alone, and neither it nor any of these uses one of these variables
 pub record Precedes (functions : List Function) (later : List Var) (initial : Option Expr) : Type 0 where
   pub count : ℕ
   pub value : InitialWithin (Apart later) (λ k. k < count) initial
-  pub first : Leave later (take count functions)
+  pub first : AreApart later (take count functions)
 
 -- each initial value, with what it calls, uses only variables before it
 abbrev pub ArePreceding : List Function → List Var → Type 0
