@@ -202,7 +202,7 @@ params_later a before (f ∷ fs) z h =
     (programs.and_name before f.name) fs y k))
     (last (λ fs'. record { name = numbered a f.name; ty = ty } ∷ fs') z))) h
 
-entered_next : (fs : List Field) (a : Seen) → (programs.entered fs a).next ≡ a.next
+pub entered_next : (fs : List Field) (a : Seen) → (programs.entered fs a).next ≡ a.next
 entered_next [] a = refl
 entered_next (f ∷ fs) a = entered_next fs (opened kind.Fixed f.name a)
 
@@ -278,7 +278,7 @@ comp_fresh a f x h =
     fresh_end a (programs.behind kind.Component own a c.0.seen) (decl.Comp (record { name = own; params = ps.0.made; body = c.0.made; at = f.at })) x
     (later_less a c.0.seen l) (refl, l) c.2
 
-decl_fresh : (a : Seen) (d : Decl) (x : Done Decl) → programs.decl_of a d ≡ Fine x → Fresh a x
+pub decl_fresh : (a : Seen) (d : Decl) (x : Done Decl) → programs.decl_of a d ≡ Fine x → Fresh a x
 decl_fresh a (decl.Var v) x h =
     let n = first (programs.new_name a.open_ v.name) (λ u. and_then (statements.variable a v) (λ v'. done (decl.Var v'.made) v'.seen)) x h in
     let y = first (statements.variable a v) (λ v'. done (decl.Var v'.made) v'.seen) x n.2 in

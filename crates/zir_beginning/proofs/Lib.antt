@@ -1,0 +1,11 @@
+mod Changing
+mod Sparing
+mod Leaving
+mod Calling
+mod Beginning
+mod Typing
+mod Parts
+mod Walking
+mod Opening
+mod Numbering
+mod Keeping

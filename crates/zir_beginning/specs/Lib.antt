@@ -1,0 +1,4 @@
+pub mod Uses
+pub mod Order
+pub mod Laws
+pub mod Code
