@@ -1,3 +1,4 @@
 pub mod Events
 pub mod Traces
 pub mod Output
+pub mod Stepping
