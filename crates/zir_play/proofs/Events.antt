@@ -1,5 +1,5 @@
 -- The events of stages: from a stage on one event comes first, and a stage that performs a process comes to the process's.
-use Rattle.std.proofs.Common.{◌≡◌, ℕ, zero, suc, ℤ, List, ap, sym, subst, refl, ◌∙◌}
+use Rattle.std.proofs.Common.{◌≡◌, ℕ, zero, suc, ℤ, List, Some, ap, sym, subst, refl, ◌∙◌}
 use Rattle.zir_tree.specs.declared.value.Val.{Val}
 use Rattle.zir_tree.specs.declared.ends.End.{End}
 use Rattle.zir_tree.specs.declared.ends.Trap.{Trap}
@@ -12,6 +12,8 @@ use Rattle.zir_flow.specs.declared.instruction.Instruction.{Instruction}
 use Rattle.zir_flow.specs.Stages.{Stage, Turned, Going, Giving, Needing, Ended, Failed, Gone, turn, going_on, turned_on, handed}
 use Rattle.zir_flow.specs.Playing.{PointIs}
 use Rattle.zir_stage.specs.Standing.{given}
+use Rattle.zir_stage.specs.declared.event.Event.{Event}
+use Rattle.zir_stage.specs.Coming.{said, says}
 use Rattle.zir_play.specs.Performing.{Interface, Stands, Performs}
 
 -- a stage has come to an event, and does not only go on
@@ -38,6 +40,10 @@ pub same_event : (n m : ℕ) (code : List Instruction) (s : Stage) (a b : Turned
 same_event zero m code s a b x y e f = absurd (subst IsEvent (sym e) x)
 same_event (suc n) zero code s a b x y e f = absurd (subst IsEvent (sym f) y)
 same_event (suc n) (suc m) code s a b x y e f = one_event (turn code s) n m code a b e f (λ s'. same_event n m code s' a b x y)
+
+-- what a stage has come to, by another name for the event
+pub comes_to : (n : ℕ) (code : List Instruction) (s s' : Stage) (e e' : Event) → e ≡ e' → turned_on n code s ≡ said (Some e) s' → turned_on n code s ≡ says e' s'
+comes_to n code s s' e e' same came = came ∙ ap (λ x. says x s') same
 
 -- the event with which a process ends
 abbrev pub MeetsEnd : Interface → End → State → Turned → Type 0
