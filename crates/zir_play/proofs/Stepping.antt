@@ -261,3 +261,16 @@ module _ {K : Type 0} (stands_for : K → List ℕ → Type 0) (before : K) (old
         rest = (g.received, g.under.remains);
         value = tt;
       })
+
+-- a turn that came to an end
+pub turned_end : {K : Type 0} (stands_for : K → List ℕ → Type 0) (before now : K) (old new : Kept) (i : Interface) (code : List Instruction) (p : Proc) (xs : List Val) (tail : Tail) (left : Option Input) (s : Stage) (m : Memory) (written events : ℕ) (r : Option Outcome) (o : Outcome) → r ≡ Some o →
+    Turned stands_for before now old new i code p xs tail left s m written events (Ok r) → Played stands_for before now old new i (run p xs) xs tail left m o
+turned_end stands_for before now old new i code p xs tail left s m written events r o e h =
+    subst (λ x. Turned stands_for before now old new i code p xs tail left s m written events (Ok x)) e h
+
+-- a turn after which the run goes on
+pub turned_on_from : {K : Type 0} (stands_for : K → List ℕ → Type 0) (before now : K) (old new : Kept) (i : Interface) (code : List Instruction) (p : Proc) (xs : List Val) (tail : Tail) (left : Option Input) (s : Stage) (m : Memory) (written events next : ℕ) (r : Option Outcome) → r ≡ None → suc events ≡ next →
+    Turned stands_for before now old new i code p xs tail left s m written events (Ok r) → Goes stands_for before now old new i code p xs tail left s written next
+turned_on_from stands_for before now old new i code p xs tail left s m written events next r e f h =
+    subst (Goes stands_for before now old new i code p xs tail left s written) f
+    (subst (λ x. Turned stands_for before now old new i code p xs tail left s m written events (Ok x)) e h)

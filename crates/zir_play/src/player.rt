@@ -163,8 +163,10 @@ impl Player {
     {
         let mut written = 0;
         for _events in 0..MOST {
-            if let Some(outcome) = self.turn(stage, code, elements, writer, sink, &mut written)? {
-                return Ok(outcome);
+            match self.turn(stage, code, elements, writer, sink, &mut written) {
+                Ok(None) => {}
+                Ok(Some(outcome)) => return Ok(outcome),
+                Err(why) => return Err(why),
             }
         }
         Err(PlayError::Exhausted)
