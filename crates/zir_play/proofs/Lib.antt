@@ -2,3 +2,4 @@ pub mod Events
 pub mod Traces
 pub mod Output
 pub mod Stepping
+pub mod Closing
