@@ -3,3 +3,5 @@ pub mod Traces
 pub mod Output
 pub mod Stepping
 pub mod Closing
+pub mod Watching
+pub mod Listing
