@@ -4,7 +4,7 @@ use Rattle.zir_tree.specs.declared.value.Val.{Val}
 use Rattle.zir_tree.specs.declared.ends.End.{End}
 use Rattle.zir_tree.specs.declared.ends.Trap.{Trap}
 use Rattle.zir_tree.specs.declared.ends.End.TheVariants.{Value, Starved, Trap as Trapped, Spent}
-use Rattle.zir_meaning.specs.Trace.{State, Point, point, Out}
+use Rattle.zir_meaning.specs.Trace.{State, point, Out}
 use Rattle.zir_cells.specs.Cells.{cells_of}
 use Rattle.zir_laws.specs.Process.{Proc, Gives, Ends, Needs}
 use Rattle.zir_shapes.specs.Shapes.{Shaped}

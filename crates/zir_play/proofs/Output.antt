@@ -1,8 +1,8 @@
 -- What was written, and then more.
-use Rattle.std.proofs.Common.{◌≡◌, ℕ, suc, ◌+◌, ◌-◌, ◌%◌, ◌<◌, ℤ, Bool, true, false, List, [], ◌∷◌, ◌++◌, length, length-append, ap, sym, subst, refl, ◌∙◌, append_assoc, arith}
+use Rattle.std.proofs.Common.{◌≡◌, ℕ, suc, ℤ, Bool, false, List, [], ◌∷◌, ◌++◌, length-append, ap, sym, subst, refl, ◌∙◌, append_assoc, arith}
 use Rattle.std.proofs.lemmas.List.{append-nil}
 use Rattle.zir_meaning.specs.Elements.{spell_numbers}
-use Rattle.zir_outside.specs.Sinks.{Grew, GrewPart}
+use Rattle.zir_outside.specs.Sinks.{Grew}
 use Rattle.zir_expr.specs.Memory.{after, cell_at}
 use Rattle.zir_expr.specs.Memory.Frames.{Memory}
 use Rattle.zir_flow.specs.Threads.{cells_from}

@@ -6,12 +6,12 @@ use Rattle.zir_tree.specs.declared.value.Val.{Val}
 use Rattle.zir_tree.specs.declared.ends.End.TheVariants.{Value, Starved, Trap as Trapped, Spent}
 use Rattle.zir_tree.specs.declared.ends.Stamp.{Stamp}
 use Rattle.zir_tree.specs.declared.ends.Trap.{Trap}
-use Rattle.zir_meaning.specs.Trace.{State, Out, Trace, after, ends}
+use Rattle.zir_meaning.specs.Trace.{after, ends}
 use Rattle.zir_meaning.specs.Values.{Each}
 use Rattle.zir_meaning.specs.Elements.{Tail, Ended as EndedTail, Malformed as MalformedTail}
 use Rattle.zir_meaning.specs.Run.{starved_end}
 use Rattle.zir_cells.specs.Cells.{cells_of}
-use Rattle.zir_laws.specs.Process.{Proc, Gives, Ends, Needs, run}
+use Rattle.zir_laws.specs.Process.{Proc, Needs, run}
 use Rattle.zir_shapes.specs.Shapes.{Shaped}
 use Rattle.zir_expr.specs.Memory.Frames.{Memory}
 use Rattle.zir_flow.specs.declared.instruction.Instruction.{Instruction}
@@ -29,7 +29,7 @@ use Rattle.zir_play.specs.Inputs.{Input, input_of, HasOnly, Gets}
 use Rattle.zir_play.specs.Performing.{Interface, Performs}
 use Rattle.zir_play.specs.Runs.{numbers_of, TellsEnd, GoesOn, Played, Interrupted, BrokeOff, UsedUp}
 use Rattle.zir_play.specs.Turning.{Goes, Turned, PutsFront, Hands, EndsAs}
-use Rattle.zir_play.proofs.Events.{GivesFirst, gives_first, NeedsFirst, needs_first, EndsFirst, ends_first, TrapsFirst, traps_first, gone_first, meets}
+use Rattle.zir_play.proofs.Events.{GivesFirst, gives_first, NeedsFirst, needs_first, ends_first, traps_first, gone_first, meets}
 use Rattle.zir_play.proofs.Traces.{numbers-push, trace_is, front_is, goes_on_from, goes_on_given, goes_on_taken}
 use Rattle.zir_play.proofs.Output.{wrote_none, wrote_then, part_after}
 

@@ -1,11 +1,11 @@
 -- Stages that play a process perform it: what is watched of them is left out.
-use Rattle.std.proofs.Common.{◌≡◌, ◌+◌, ℕ, zero, suc, Bool, true, false, List, sym, subst, refl, ap}
+use Rattle.std.proofs.Common.{◌≡◌, ◌+◌, ℕ, zero, suc, Bool, true, false, List, subst, refl}
 use Rattle.std.specs.Prelude.{nat_le}
 use Rattle.zir_tree.specs.declared.types.Ty.{Ty}
 use Rattle.zir_tree.specs.declared.comp.Comp.{Comp}
 use Rattle.zir_tree.specs.declared.ends.End.{End}
 use Rattle.zir_tree.specs.declared.ends.End.TheVariants.{Value, Starved, Trap as Trapped, Spent}
-use Rattle.zir_meaning.specs.Trace.{State, point}
+use Rattle.zir_meaning.specs.Trace.{State}
 use Rattle.zir_cells.specs.Cells.{cells_of}
 use Rattle.zir_laws.specs.Process.{Proc, Gives, Ends, Needs}
 use Rattle.zir_expr.specs.Memory.{from_base}

@@ -1,5 +1,5 @@
 -- What a run of a stage has come to, in the terms of its process.
-use Rattle.std.specs.Prelude.{ℕ, ◌+◌, ◌-◌, ◌%◌, ◌^◌, ◌≤◌, ◌≡◌, ◌⊎◌, ℤ, List, [], ◌++◌, Option, Some, length, flat_map, Result, Ok, Err, false, true}
+use Rattle.std.specs.Prelude.{ℕ, ◌+◌, ◌-◌, ◌%◌, ◌^◌, ◌≤◌, ◌≡◌, ◌⊎◌, ℤ, List, ◌++◌, Option, Some, length, flat_map, Result, Ok, Err, false, true}
 use Rattle.zir_tree.specs.declared.value.Val.{Val}
 use Rattle.zir_tree.specs.declared.format.Format.{Format}
 use Rattle.zir_tree.specs.declared.types.Base.{Base}

@@ -20,7 +20,7 @@ use Rattle.zir_play.specs.declared.elements.Next.{Next}
 use Rattle.zir_play.specs.declared.elements.Next.TheVariants.{Element, End, Malformed, Failed as NextFailed}
 use Rattle.zir_play.specs.Inputs.{Input, Gets}
 use Rattle.zir_play.specs.Performing.{Interface, Performs}
-use Rattle.zir_play.specs.Runs.{numbers_of, Remains, GoesOn, Played, Broke, Interrupted}
+use Rattle.zir_play.specs.Runs.{numbers_of, Remains, GoesOn, Played, Broke}
 
 -- a run under way: it took these elements and gave these outputs, so many events in all, and its stage performs what follows
 pub record Under (i : Interface) (code : List Instruction) (p : Proc) (xs : List Val) (tail : Tail) (left : Option Input) (s : Stage) (next : Proc) (received : List Val) (outs : List Out) (written events : ℕ) : Type 0 where

@@ -4,6 +4,8 @@
 pub mod elements;
 pub mod memory;
 pub mod player;
+#[cfg(test)]
+mod tests;
 
 ghost use Rattle.zir_play.specs.Laws.{PlaysPerform};
 

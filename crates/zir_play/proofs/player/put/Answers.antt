@@ -1,8 +1,7 @@
-use Rattle.std.proofs.Common.{◌≡◌, ◌+◌, ◌-◌, ℕ, suc, ℤ, [], ◌∷◌, ap, sym, subst, ◌∙◌, arith, rules, w64, to_z, of_z, FitsSigned}
+use Rattle.std.proofs.Common.{◌≡◌, ◌+◌, ◌-◌, suc, ◌∷◌, ◌∙◌, arith, rules, w64, to_z, of_z, FitsSigned}
 use Rattle.std.proofs.lemmas.Int.{to_z-of_z}
-use Rattle.zir_expr.specs.Memory.{after, cell_at}
+use Rattle.zir_expr.specs.Memory.{after}
 use Rattle.zir_flow.specs.Threads.{cells_from}
-use Rattle.zir_samples.specs.Writing.{Wrote, PutsPart}
 use Rattle.zir_samples.proofs.Putting.{on_err_any}
 use Rattle.zir_play.proofs.Output.{cells_first, put_more, put_part}
 use Rattle.zir_play.proofs.player.put.Goals as goal

@@ -1,4 +1,4 @@
-use Rattle.std.proofs.Common.{◌-◌, ◌<◌, ◌≤◌, length, take, ap, subst, refl, ◌∙◌}
+use Rattle.std.proofs.Common.{◌<◌, ◌≤◌, take, ap, subst, refl, ◌∙◌}
 use Rattle.zir_play.specs.Memory.{tail_of}
 use Rattle.zir_play.proofs.Listing.{has_only, takes_first, rest_is, rest_length}
 use Rattle.zir_play.proofs.memory.MemElementsElementSource.next.Goals as goal

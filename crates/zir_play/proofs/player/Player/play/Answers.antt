@@ -1,4 +1,4 @@
-use Rattle.std.proofs.Common.{◌≡◌, ◌+◌, ◌≤◌, ◌∙◌, suc, inl, refl, add-one, sym, arith}
+use Rattle.std.proofs.Common.{◌+◌, ◌∙◌, inl, refl, add-one, sym, arith}
 use Rattle.zir_stage.specs.Standing.{given, stage_of}
 use Rattle.zir_play.proofs.Stepping.{goes_from, turned_end, turned_on_from, used_up}
 use Rattle.zir_play.proofs.player.Player.play.Goals as goal

@@ -1,4 +1,4 @@
-use Rattle.std.proofs.Common.{◌≡◌, ◌+◌, inr, ap, sym, subst, refl, ◌∙◌, arith}
+use Rattle.std.proofs.Common.{inr, sym, subst, refl}
 use Rattle.zir_flow.specs.Threads.{cells_from}
 use Rattle.zir_samples.specs.Writing.{Wrote}
 use Rattle.zir_stage.specs.Standing.{given, stage_of}
