@@ -7,7 +7,7 @@ use Rattle.std.proofs.lemmas.Bool.Decides.{nat_tests}
 use Rattle.std.specs.Prelude.{if◌then◌else◌, nat_eq}
 use Rattle.zir_tree.specs.declared.types.Base.{Base}
 use Rattle.zir_tree.specs.declared.types.Base.TheVariants.{Unit, Bit, Bool as BoolTy, Int8, Int16, Int32, Int64, Complex16, Complex32, Struct}
-use Rattle.zir_meaning.specs.Items.{fits, fits_bits, width}
+use Rattle.zir_meaning.specs.Items.{width}
 use Rattle.zir_meaning.specs.Samples.{bits_of, low_bits, number_at, number_of, with_sign}
 
 -- twice a number and a bit more, halved
@@ -210,16 +210,3 @@ whole-width Int64 h = refl
 whole-width Complex16 h = refl
 whole-width Complex32 h = refl
 whole-width (Struct k) h = refl
-
--- a number that is no bit has its width in two's complement
-pub fits-signed : (base : Base) (z : ℤ) → (base ≡ Bit → ⊥) → fits base z ≡ fits_bits (width base) z
-fits-signed Bit z h = absurd (h refl)
-fits-signed Unit z h = refl
-fits-signed BoolTy z h = refl
-fits-signed Int8 z h = refl
-fits-signed Int16 z h = refl
-fits-signed Int32 z h = refl
-fits-signed Int64 z h = refl
-fits-signed Complex16 z h = refl
-fits-signed Complex32 z h = refl
-fits-signed (Struct k) z h = refl

@@ -147,6 +147,8 @@ some-more some zs i d h = ap (some_after some) (take_more zs i d h) ∙ some-pus
 -- a writer whose bits were put in pieces holds its numbers
 pub wrote_from : {K : Type 0} (stands_for : K → List ℕ → Type 0) (before now : K) (old new : Kept) (zs : List ℤ) → new.format ≡ old.format → new.base ≡ old.base → new.some ≡ some_after old.some zs → Puts stands_for before now (old.bits ++ all_added old.format old.base old.some zs) new.bits → Wrote stands_for before now old new zs
 wrote_from stands_for before now old new zs e f s p = record {
+  format = e;
+  base = f;
   front = p.front;
   grew = p.grew;
   pieces = p.pieces;

@@ -44,6 +44,8 @@ pub record Wrote {K : Type 0} (stands_for : K → List ℕ → Type 0) (before n
   pub pieces : length front % 4096 ≡ 0
   pub left : front ≡ [] → now ≡ before
   pub holds : (numbers : List ℤ) (given : List ℕ) → Holds old numbers given → Holds new (numbers ++ more) (given ++ front)
+  pub format : new.format ≡ old.format
+  pub base : new.base ≡ old.base
 
 -- the sink grew by what was not put yet of the numbers' output and of more behind them, finished or not
 pub record PutsRest {K : Type 0} (stands_for : K → List ℕ → Type 0) (before now : K) (old : Kept) (more : List ℤ) (finished : Bool) : Type 0 where

@@ -1,8 +1,8 @@
 //! Numbers of the binary format.
 
-ghost use Rattle.std.specs.Prelude.{IsTrue, ◌≡◌, ◌≢◌, ◌<◌, ◌≤◌, ◌+◌, ◌-◌, ◌*◌, ◌^◌, drop, length, map, take};
+ghost use Rattle.std.specs.Prelude.{◌≡◌, ◌≢◌, ◌<◌, ◌≤◌, ◌+◌, ◌-◌, ◌*◌, ◌^◌, drop, length, map, take};
 ghost use Rattle.zir_tree.specs.declared.types.Base.TheVariants.{Bit};
-ghost use Rattle.zir_meaning.specs.Items.{fits_bits, pieces, width as width_of};
+ghost use Rattle.zir_meaning.specs.Items.{pieces, width as width_of};
 ghost use Rattle.zir_meaning.specs.Samples.{bits_of, number_at, number_of, with_sign as signed_of, without_sign as unsigned_of};
 ghost use Rattle.zir_samples.specs.Finding.{FindsBits};
 
@@ -119,12 +119,11 @@ fn with_sign(width: usize, number: u64) -> i64
 pub fn without_sign(width: usize, number: i64) -> u64
     requires some { 0 < width }
     requires most { width ≤ 64 }
-    requires within { IsTrue (fits_bits width number) }
     ensures { result ≡ unsigned_of width number }
 {
     if number >= 0 {
         return number as u64;
     }
-    let half = 1 << (width - 1);
-    half - 1 + half - (-(number + 1)) as u64
+    let half: u64 = 1 << (width - 1);
+    (half - 1 + half).saturating_sub((-(number + 1)) as u64)
 }

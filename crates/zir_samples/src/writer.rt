@@ -1,9 +1,9 @@
 //! Elements that are written into a sink.
 
-ghost use Rattle.std.specs.Prelude.{◌≡◌, ◌<◌, ◌%◌, ◌++◌, ◌∷◌, [], true, false, if◌then◌else◌, codes, length, All, IfOk, IsTrue, OnOk, OnErr};
+ghost use Rattle.std.specs.Prelude.{◌≡◌, ◌<◌, ◌%◌, ◌++◌, ◌∷◌, [], true, false, if◌then◌else◌, codes, length, IfOk, OnOk, OnErr};
 ghost use Rattle.zir_tree.specs.declared.format.Format.TheVariants.{Binary, Text};
 ghost use Rattle.zir_tree.specs.declared.types.Base.TheVariants.{Unit};
-ghost use Rattle.zir_meaning.specs.Items.{fits, width as width_of};
+ghost use Rattle.zir_meaning.specs.Items.{width as width_of};
 ghost use Rattle.zir_meaning.specs.Samples.{bits_at, bits_of, spell_bits};
 ghost use Rattle.zir_outside.specs.Causes.{HasCause};
 ghost use Rattle.zir_outside.specs.Sinks.{Grew, GrewPart, Tells};
@@ -56,9 +56,8 @@ impl Writer {
         })
     }
 
-    /// Writes an element, whose cells are in the range of their type.
+    /// Writes an element.
     pub fn push<K: Sink>(&mut self, element: &[i64], sink: &mut K) -> Result<(), Failed>
-        requires cells { All (λ z. IsTrue (fits self.old.base z)) element.now }
         ensures ok { OnOk result (Wrote K.stands_for sink.old sink.new self.old self.new element.now) }
         ensures failed { OnErr result (PutsPart K.stands_for sink.old sink.new self.old element.now false) }
         ensures untold { Tells (K.stands_for sink.new) → Tells (K.stands_for sink.old) }
@@ -95,7 +94,6 @@ impl Writer {
 
     // Adds a number.
     fn push_number<K: Sink>(&mut self, number: i64, sink: &mut K) -> Result<(), Failed>
-        requires fits { IsTrue (fits self.old.base number) }
         ensures ok { OnOk result (Puts K.stands_for sink.old sink.new (self.old.bits ++ added self.old.format self.old.base self.old.some number) self.new.bits) }
         ensures failed { OnErr result (GrewPart (spell_bits false (self.old.bits ++ added self.old.format self.old.base self.old.some number)) (K.stands_for sink.old) (K.stands_for sink.new)) }
         ensures format { self.new.format ≡ self.old.format }
@@ -120,7 +118,6 @@ fn push_binary<K: Sink>(
     number: i64,
     sink: &mut K,
 ) -> Result<(), Failed>
-    requires fits { IsTrue (fits base number) }
     requires stream { 0 < width_of base }
     requires whole { IsWhole Binary base output.old }
     ensures ok { OnOk result (Puts K.stands_for sink.old sink.new (output.old ++ bits_at base number) output.new) }
@@ -130,7 +127,7 @@ fn push_binary<K: Sink>(
     ensures cause { HasCause (K.faults sink.old) (K.faults sink.new) result }
 {
     match base {
-        Base::Bit => output.push_bit(number == 1, sink),
+        Base::Bit => output.push_bit(without_sign(1, number) % 2 == 1, sink),
         _ => {
             let width = width(base);
             output.push_number(without_sign(width, number), width / 8, sink)

@@ -1,28 +1,20 @@
 use Rattle.std.proofs.Common.{◌≡◌, ◌*◌, ◌/◌, ◌++◌, false, inr, ap, sym, subst, ◌∙◌, w64, to_z, of_z}
 use Rattle.std.proofs.lemmas.Int.{to_z-of_z}
 use Rattle.std.proofs.lemmas.Result.{on_ok_weaker, on_err_weaker}
-use Rattle.std.specs.Prelude.{IsTrue}
-use Rattle.zir_meaning.specs.Items.{fits, fits_bits, width as width_of}
+use Rattle.zir_meaning.specs.Items.{width as width_of}
 use Rattle.zir_meaning.specs.Samples.{bits_at, low_bits, spell_bits, without_sign as unsigned_of}
 use Rattle.zir_outside.specs.Sinks.{GrewPart}
 use Rattle.zir_samples.specs.Output.{Puts}
-use Rattle.zir_samples.proofs.Numbers.{fits-signed, whole-width}
+use Rattle.zir_samples.proofs.Numbers.{whole-width}
 use Rattle.zir_samples.proofs.writer.push_binary.Goals as goal
 
-pub without_sign-requires : goal.without_sign-requires
-without_sign-requires g c =
-    let number : to_z w64 (of_z w64 c.args.number) ≡ c.args.number = to_z-of_z w64 c.args.number c.ranges.number in
-    let fitting : fits_bits c.width-width.result (to_z w64 (of_z w64 c.args.number)) ≡ fits c.args.base c.args.number =
-    ap (fits_bits c.width-width.result) number ∙ ap (λ w. fits_bits w c.args.number) c.width-width.ensures.width ∙ sym (fits-signed c.args.base c.args.number c.in_default.not-Bit) in
-    record { some = rw c.width-width.ensures.width c.requires.stream; most = c.width-width.ensures.most; within = subst IsTrue (sym fitting) c.requires.fits }
-
 -- the bits of the number
-bits : (g : _) (c : goal.After-push_number g) → low_bits (8 * (c.width-width.result / 8)) c.without_sign.result ≡ bits_at c.args.base c.args.number
+bits : (g : _) (c : goal.After-push_number g) → low_bits (8 * (c.width-width.result / 8)) c.without_sign-in_default.result ≡ bits_at c.args.base c.args.number
 bits g c =
     let base = c.args.base in
     let w = c.width-width.result in
     let number : to_z w64 (of_z w64 c.args.number) ≡ c.args.number = to_z-of_z w64 c.args.number c.ranges.number in
-    ap (λ n. low_bits (8 * (w / 8)) n) (c.without_sign.ensures ∙ ap (unsigned_of w) number)
+    ap (λ n. low_bits (8 * (w / 8)) n) (c.without_sign-in_default.ensures ∙ ap (unsigned_of w) number)
     ∙ ap (λ k. low_bits (8 * (k / 8)) (unsigned_of k c.args.number)) c.width-width.ensures.width
     ∙ ap (λ k. low_bits k (unsigned_of (width_of base) c.args.number)) (whole-width base c.in_default.not-Bit)
 

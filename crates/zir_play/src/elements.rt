@@ -1,0 +1,38 @@
+// Elements that are taken, one after the other.
+
+ghost use Rattle.std.specs.Prelude.{ℕ, ◌≡◌, ◌≤◌, Option, length};
+ghost use Rattle.zir_outside.specs.Causes.{Rose};
+ghost use Rattle.zir_play.specs.Inputs.{Gets, Input};
+
+/// What a source of elements answers.
+#[derive(Clone, Copy, Debug, PartialEq, Eq)]
+pub enum Next {
+    /// An element.
+    Element,
+    /// The end of the input.
+    End,
+    /// Malformed input, behind the byte at this place.
+    Malformed(u64),
+    /// A read failed.
+    Failed,
+}
+
+/// Elements that are taken from front to back, each by its cells.
+pub trait ElementSource {
+    // How many cells an element has.
+    ghost size: { Self → ℕ };
+
+    // The elements still to come and what follows them, where it tells them.
+    ghost left: { Self → Option Input };
+
+    // How often it failed. This never falls.
+    ghost faults: { Self → ℕ };
+
+    /// Puts the cells of the next element into `into`, if there is one. After `Failed` no other call comes.
+    fn next(&mut self, into: &mut [i64]) -> Next
+        requires { length into.old ≡ size self.old }
+        ensures gets { Gets (left self.old) (left self.new) into.new result }
+        ensures size { size self.new ≡ size self.old }
+        ensures later { faults self.old ≤ faults self.new }
+        ensures cause { result ≡ Next.Failed → Rose (faults self.old) (faults self.new) };
+}
