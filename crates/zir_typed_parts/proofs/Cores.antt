@@ -47,5 +47,5 @@ core_flows {R} core relates sound proper functions related =
 
 -- the law
 pub cores_flow : CoresFlow
-cores_flow core sound proper expressions found fit functions =
-    core_flows core (sees_relates (length core.structs) expressions found fit) sound proper functions (sees_top core sound proper)
+cores_flow core sound proper signed expressions found fit functions =
+    core_flows core (sees_relates (length core.structs) expressions found fit) sound proper functions (sees_top core sound proper signed)

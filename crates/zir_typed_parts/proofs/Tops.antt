@@ -24,7 +24,7 @@ use Rattle.zir_eval.specs.Opening.{cells_for_var, top_holder, top_holders, progr
 use Rattle.zir_sound.specs.Statements.{seen_of}
 use Rattle.zir_sound.specs.Cores.{IsSound, signature_of as typed_signature}
 use Rattle.zir_flow.specs.Fitting.{Distinct}
-use Rattle.zir_typed_parts.specs.Proper.{Known, is_in, ProperTops, top_numbers, ResultsKnown, AllSigned, IsProper}
+use Rattle.zir_typed_parts.specs.Proper.{Known, is_in, ProperTops, top_numbers, ResultsKnown, AllSigned, IsSigned, IsProper}
 use Rattle.zir_typed_parts.specs.Related.{FunctionFound, Sees}
 use Rattle.zir_typed_parts.proofs.Instances.{get_last}
 use Rattle.zir_typed_parts.proofs.Scopes.{either_false}
@@ -159,13 +159,13 @@ functions_found n structs tops funs m before (f ∷ fs) size all known signed =
 
 -- THE TOP
 
-pub sees_top : (core : Core) (sound : IsSound core) → IsProper core →
+pub sees_top : (core : Core) (sound : IsSound core) → IsProper core → IsSigned core →
     Sees (length core.structs) (top_numbers [] core.variables) sound.top (program_scope core) 0
-sees_top core sound proper =
+sees_top core sound proper all_signed =
     let n : ℕ = length core.structs in
     let structs : List StructDef = core.structs in
     let tops : List Holder = top_holders structs 0 core.variables in
-    let signed = functions_found n structs tops no_signature 0 [] core.functions refl (λ k s h. absurd cc) proper.results proper.signed in
+    let signed = functions_found n structs tops no_signature 0 [] core.functions refl (λ k s h. absurd cc) proper.results all_signed in
     record {
       count = refl;
       ordered = proper.structs;

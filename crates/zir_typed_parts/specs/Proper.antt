@@ -132,13 +132,16 @@ AllSigned structs tops funs m (f ∷ fs) =
     (is_signed (at_top structs tops funs) f ≡ true)
     × AllSigned structs tops (one_more_signature funs m (signature_of (at_top structs tops funs) f)) (suc m) fs
 
--- what names, written types and limits promise of a core besides its rules: the structs of a struct's fields stand before it, each name in scope has a
--- number of its own, every type names a struct of the program, and each function has code for its calls
+-- each function of a program has code for its calls
+abbrev pub IsSigned : Core → Type 0
+IsSigned core = AllSigned core.structs (top_holders core.structs 0 core.variables) no_signature 0 core.functions
+
+-- what names and written types promise of a core besides its rules: the structs of a struct's fields stand before it, each name in scope has a number of
+-- its own, and every type names a struct of the program
 pub record IsProper (core : Core) : Type 0 where
   pub structs : Ordered core.structs
   pub tops : ProperTops (length core.structs) [] core.variables
   pub results : ResultsKnown (length core.structs) core.functions
-  pub signed : AllSigned core.structs (top_holders core.structs 0 core.variables) no_signature 0 core.functions
   pub input : Known (length core.structs) core.input
   pub instances : ProperInstances (length core.structs) (top_numbers [] core.variables) core.instances
   pub main : Proper (length core.structs) (top_numbers [] core.variables) core.main
