@@ -31,8 +31,8 @@ use Rattle.zir_sound.specs.Components.{IsComp, AreMembers, IsValueOf}
 use Rattle.zir_flow.specs.Kinds.{Setting, type_between, valued, value_in, output_in}
 use Rattle.zir_flow.specs.Fitting.{OneEnds, StepFits, EmitsFit, Flows, MembersFlow}
 use Rattle.zir_flat.specs.Needs.{entry_needs, step_peak, flow_peak, members_peak}
-use Rattle.zir_typed_parts.specs.Proper.{Known, Proper, ProperMembers}
-use Rattle.zir_typed_parts.proofs.Grounds.{Ground}
+use Rattle.zir_typed_code.specs.Forming.{IsFilled, AllFilled, FilledIfAny, FormedComp, FormedMembers}
+use Rattle.zir_typed_parts.proofs.Grounds.{Known, Ground}
 use Rattle.zir_typed_parts.proofs.Found.{between_is, link_known, found}
 
 -- each of these types is that one
@@ -84,22 +84,23 @@ initial_low sc d n None = omega arith
 initial_low sc d n (Some e) = omega arith
 
 fits : {n : ℕ} {R : List ℕ → Visible → Scope → ℕ → Type 0} (ground : Ground n R) (ids : List ℕ)
-    (g : Visible) (sc : Scope) (d k : ℕ) (t : Ty) (e : Expr) → R ids g sc d → d ≤ k → peak_of sc e d ≤ k → Has g t e → Fits sc d k t e
-fits ground ids g sc d k t e r le peak h = ((ground.relates.expression ids g sc k t e (ground.relates.later ids g sc d k le r) h).0, peak)
+    (g : Visible) (sc : Scope) (d k : ℕ) (t : Ty) (e : Expr) → R ids g sc d → IsFilled e → d ≤ k → peak_of sc e d ≤ k → Has g t e → Fits sc d k t e
+fits ground ids g sc d k t e r filled le peak h =
+    ((ground.relates.expression ids g sc k t e (ground.relates.later ids g sc d k le r) filled h).0, peak)
 
 all_fit : {n : ℕ} {R : List ℕ → Visible → Scope → ℕ → Type 0} (ground : Ground n R) (ids : List ℕ)
-    (g : Visible) (sc : Scope) (k : ℕ) (ts : List Ty) (es : List Expr) → R ids g sc k → Each g ts es → AllFit sc k ts es
-all_fit ground ids g sc k [] [] r h = tt
-all_fit ground ids g sc k [] (e ∷ es) r h = absurd h
-all_fit ground ids g sc k (t ∷ ts) [] r h = absurd h
-all_fit ground ids g sc k (t ∷ ts) (e ∷ es) r h =
-    ((ground.relates.expression ids g sc k t e r h.0).0, all_fit ground ids g sc k ts es r h.1)
+    (g : Visible) (sc : Scope) (k : ℕ) (ts : List Ty) (es : List Expr) → R ids g sc k → AllFilled es → Each g ts es → AllFit sc k ts es
+all_fit ground ids g sc k [] [] r filled h = tt
+all_fit ground ids g sc k [] (e ∷ es) r filled h = absurd h
+all_fit ground ids g sc k (t ∷ ts) [] r filled h = absurd h
+all_fit ground ids g sc k (t ∷ ts) (e ∷ es) r filled h =
+    ((ground.relates.expression ids g sc k t e r filled.0 h.0).0, all_fit ground ids g sc k ts es r filled.1 h.1)
 
 initial_fits : {n : ℕ} {R : List ℕ → Visible → Scope → ℕ → Type 0} (ground : Ground n R) (ids : List ℕ)
-    (g : Visible) (sc : Scope) (d k : ℕ) (t : Ty) (e : Option Expr) → R ids g sc d → d ≤ k → initial_peak sc d (cells_for sc t) e ≤ k →
+    (g : Visible) (sc : Scope) (d k : ℕ) (t : Ty) (e : Option Expr) → R ids g sc d → FilledIfAny e → d ≤ k → initial_peak sc d (cells_for sc t) e ≤ k →
     HasIfAny g t e → InitialFits sc d k t e
-initial_fits ground ids g sc d k t None r le peak h = tt
-initial_fits ground ids g sc d k t (Some e) r le peak h = fits ground ids g sc d k t e r le (omega arith) h
+initial_fits ground ids g sc d k t None r filled le peak h = tt
+initial_fits ground ids g sc d k t (Some e) r filled le peak h = fits ground ids g sc d k t e r filled le (omega arith) h
 
 -- a function that elements go through
 step_fits : {n : ℕ} {R : List ℕ → Visible → Scope → ℕ → Type 0} (ground : Ground n R) (ids : List ℕ)
@@ -119,7 +120,7 @@ step_fits ground ids g sc d d' k f from to s r get params result peak =
 
 mutual
   pub flows : {n : ℕ} {R : List ℕ → Visible → Scope → ℕ → Type 0} (ground : Ground n R) (ids : List ℕ)
-      (g : Visible) (sc : Scope) (a : Ty) (d : ℕ) (c : Comp) (out v : Option Ty) (k : ℕ) (o : Ty) → R ids g sc d → Known n a → Proper n ids c →
+      (g : Visible) (sc : Scope) (a : Ty) (d : ℕ) (c : Comp) (out v : Option Ty) (k : ℕ) (o : Ty) → R ids g sc d → Known n a → FormedComp n ids c →
       IsComp g ground.instances a c out v → EmitsFit out o → d ≤ k → flow_peak ground.st sc a d c ≤ k → Flows ground.st sc k a o d c
   flows {n} ground ids g sc a d (Take p) out v k o r known own h emits le peak =
       (subst (λ n. StructsBefore n a.base) (ground.relates.structs ids g sc d r) known, peak)
@@ -127,49 +128,49 @@ mutual
       (subst (λ n. StructsBefore n a.base) (ground.relates.structs ids g sc d r) known, peak)
   flows {n} ground ids g sc a d (Emit e p) out v k o r known own h emits le peak =
       let same : h.0 ≡ o = subst (λ out. EmitsFit out o) h.1 emits in
-      fits ground ids g sc d k o e r le peak (subst (λ t. Has g t e) same h.4)
+      fits ground ids g sc d k o e r own le peak (subst (λ t. Has g t e) same h.4)
   flows {n} ground ids g sc a d (Emits e p) out v k o r known own h emits le peak =
       let same : h.0 ≡ o = subst (λ out. EmitsFit out o) h.2 emits in
       let has : Has g (arr h.1 o) e = subst (λ t. Has g (arr h.1 t) e) same h.5 in
       let size : size_in sc e ≡ cells_for sc (arr h.1 o) =
-      ap (cells_for sc) (types_found sc d (arr h.1 o) e (ground.relates.expression ids g sc d (arr h.1 o) e r has).0) in
-      (h.1, fits ground ids g sc d k (arr h.1 o) e r le (omega arith) has, omega arith)
+      ap (cells_for sc) (types_found sc d (arr h.1 o) e (ground.relates.expression ids g sc d (arr h.1 o) e r own has).0) in
+      (h.1, fits ground ids g sc d k (arr h.1 o) e r own le (omega arith) has, omega arith)
   flows {n} ground ids g sc a d (Return e p) out v k o r known own h emits le peak =
-      let size : size_in sc e ≡ cells_for sc h.0 = ap (cells_for sc) (types_found sc d h.0 e (ground.relates.expression ids g sc d h.0 e r h.3).0) in
-      (h.0, fits ground ids g sc d k h.0 e r le (omega arith) h.3, omega arith)
+      let size : size_in sc e ≡ cells_for sc h.0 = ap (cells_for sc) (types_found sc d h.0 e (ground.relates.expression ids g sc d h.0 e r own h.3).0) in
+      (h.0, fits ground ids g sc d k h.0 e r own le (omega arith) h.3, omega arith)
   flows {n} ground ids g sc a d (Do b p) out v k o r known own h emits le peak =
       ground.relates.body_fits ids g sc d k h.0 b r own h.3 le peak
   flows {n} ground ids g sc a d (Repeat' _ (more_of-Comp c end_of-Comp) p) out v k o r known own h emits le peak =
       flows ground ids g sc a d c out unit_value k o r known own h.1 emits le peak
   flows {n} ground ids g sc a d (While' turning e _ (more_of-Comp c end_of-Comp) p) out v k o r known own h emits le peak = (
-    fits ground ids g sc d k (plain BoolTy) e r le (omega arith) h.1,
-    flows ground ids g sc a d c out unit_value k o r known own h.2 emits le (omega arith),
+    fits ground ids g sc d k (plain BoolTy) e r own.0 le (omega arith) h.1,
+    flows ground ids g sc a d c out unit_value k o r known own.1 h.2 emits le (omega arith),
   )
   flows {n} ground ids g sc a d (Times' e _ (more_of-Comp c end_of-Comp) p) out v k o r known own h emits le peak = (
-    fits ground ids g sc d k (plain Int32) e r le (omega arith) h.1,
+    fits ground ids g sc d k (plain Int32) e r own.0 le (omega arith) h.1,
     omega arith,
-    flows ground ids g sc a (d + 1) c out unit_value k o (ground.relates.later ids g sc d (d + 1) (omega arith) r) known own h.2 emits (omega arith)
+    flows ground ids g sc a (d + 1) c out unit_value k o (ground.relates.later ids g sc d (d + 1) (omega arith) r) known own.1 h.2 emits (omega arith)
         (omega arith),
   )
   flows {n} ground ids g sc a d (For' x e f _ (more_of-Comp c end_of-Comp) p) out v k o r known own h emits le peak =
       let r1 = ground.relates.local ids g sc (d + 2) x.id (plain Int32) (ground.relates.later ids g sc d (d + 2) (omega arith) r) tt own.0 in
       let sc' : Scope = with_code_index sc (d + 2) x.id in
       let r2 = ground.relates.later (x.id ∷ ids) (with_index x g) sc' (d + 2 + 1) (d + 3) (omega arith) r1 in (
-        fits ground ids g sc d k (plain Int32) e r le (omega arith) h.1,
-        fits ground ids g sc (d + 1) k (plain Int32) f (ground.relates.later ids g sc d (d + 1) (omega arith) r) (omega arith) (omega arith) h.2,
+        fits ground ids g sc d k (plain Int32) e r own.1 le (omega arith) h.1,
+        fits ground ids g sc (d + 1) k (plain Int32) f (ground.relates.later ids g sc d (d + 1) (omega arith) r) own.2 (omega arith) (omega arith) h.2,
         omega arith,
-        flows ground (x.id ∷ ids) (with_index x g) sc' a (d + 3) c out unit_value k o r2 known own.1 h.3 emits (omega arith) (omega arith),
+        flows ground (x.id ∷ ids) (with_index x g) sc' a (d + 3) c out unit_value k o r2 known own.3 h.3 emits (omega arith) (omega arith),
       )
   flows {n} ground ids g sc a d (If' e _ (more_of-Comp b end_of-Comp) _ (more_of-Comp c end_of-Comp) p) out v k o r known own h emits le peak =
-      let x = found ground ids g sc a d b h.0 v r known own.0 h.5 in
-      let y = found ground ids g sc a d c h.1 v r known own.1 h.6 in
+      let x = found ground ids g sc a d b h.0 v r known own.1 h.5 in
+      let y = found ground ids g sc a d c h.1 v r known own.2 h.6 in
       let all : AllAre (emitted h.0 ++ emitted h.1) o =
       agreed_are (emitted h.0 ++ emitted h.1) o h.2 (subst (λ out. EmitsFit out o) h.3 emits) in
       let parts = emits_first h.0 (emitted h.1) o all in (
-        fits ground ids g sc d k (plain BoolTy) e r le (omega arith) h.4,
+        fits ground ids g sc d k (plain BoolTy) e r own.0 le (omega arith) h.4,
         x.value_is ∙ sym y.value_is,
-        flows ground ids g sc a d b h.0 v k o r known own.0 h.5 parts.0 le (omega arith),
-        flows ground ids g sc a d c h.1 v k o r known own.1 h.6 (emits_single h.1 o parts.1) le (omega arith),
+        flows ground ids g sc a d b h.0 v k o r known own.1 h.5 parts.0 le (omega arith),
+        flows ground ids g sc a d c h.1 v k o r known own.2 h.6 (emits_single h.1 o parts.1) le (omega arith),
       )
   flows {n} ground ids g sc a d (Map f j p) out v k o r known own h emits le peak =
       step_fits ground ids g sc d d k j a o h.0 r h.1 h.2 (subst (λ out. EmitsFit out o) h.4 emits) peak
@@ -191,7 +192,7 @@ mutual
         x.input ∙ h.2,
         subst (λ out. EmitsFit out o) (h.3 ∙ sym x.emits) emits,
         subst (λ ts. AllFit sc k ts es) (sym x.params)
-            (all_fit ground ids g sc k _ es (ground.relates.later ids g sc d k le r) h.5),
+            (all_fit ground ids g sc k _ es (ground.relates.later ids g sc d k le r) own h.5),
         omega arith,
         room,
       )
@@ -218,7 +219,7 @@ mutual
 
   pub members_flow : {m : _} {n : ℕ} {R : List ℕ → Visible → Scope → ℕ → Type 0} (ground : Ground n R)
       (ids : List ℕ) (g : Visible) (sc : Scope) (a : Ty) (d : ℕ) (ms : Row_of-Member m) (last : Option Ty) (outs : List Ty) (v : Option Ty) (k : ℕ)
-      (o : Ty) → R ids g sc d → Known n a → ProperMembers n ids ms → AreMembers g ground.instances a last ms outs v → AllAre outs o → d ≤ k →
+      (o : Ty) → R ids g sc d → Known n a → FormedMembers n ids ms → AreMembers g ground.instances a last ms outs v → AllAre outs o → d ≤ k →
       members_peak ground.st sc a d ms ≤ k → MembersFlow ground.st sc k a o d ms
   members_flow {m} {n} ground ids g sc a d end_of-Member last outs v k o r known own h all le peak = tt
   members_flow {m} {n} ground ids g sc a d (more_of-Member (Bind x c) ms) last outs v k o r known own h all le peak =
@@ -238,11 +239,11 @@ mutual
   members_flow {m} {n} ground ids g sc a d (more_of-Member (Var w) ms) last outs v k o r known own h all le peak =
       let ty : Ty = type_of w.ty in
       let low = initial_low sc d (cells_for sc ty) w.initial in (
-        subst (λ n. StructsBefore n ty.base) (ground.relates.structs ids g sc d r) own.1,
+        subst (λ n. StructsBefore n ty.base) (ground.relates.structs ids g sc d r) own.0.1,
         omega arith,
-        initial_fits ground ids g sc d k ty w.initial r le (omega arith) h.0,
+        initial_fits ground ids g sc d k ty w.initial r own.0.2 le (omega arith) h.0,
         members_flow ground (w.name.id ∷ ids) (declare (seen_of w ∷ []) g) (with_local sc d w.name.id ty) a (d + cells_for sc ty) ms unit_value outs v k o
-            (ground.relates.local ids g sc d w.name.id ty r own.1 own.0) known own.2 h.1 all (omega arith) (omega arith),
+            (ground.relates.local ids g sc d w.name.id ty r own.0.1 own.0.0) known own.1 h.1 all (omega arith) (omega arith),
       )
   members_flow {m} {n} ground ids g sc a d (more_of-Member (Run c) ms) last outs v k o r known own h all le peak =
       let parts = emits_first h.0 h.2 o (subst (λ outs. AllAre outs o) h.3 all) in (

@@ -18,8 +18,8 @@ use Rattle.zir_code.proofs.TypesFound.{types_found}
 use Rattle.zir_sound.specs.Statements.{seen_of}
 use Rattle.zir_sound.specs.Components.{IsComp, AreMembers, IsValueOf}
 use Rattle.zir_flow.specs.Kinds.{first_of as first_there, type_between, valued, emitted as outputs_of, value_in, output_in, members_value, members_output}
-use Rattle.zir_typed_parts.specs.Proper.{Known, Proper, ProperMembers}
-use Rattle.zir_typed_parts.proofs.Grounds.{KnownIfAny, Ground}
+use Rattle.zir_typed_code.specs.Forming.{FormedComp, FormedMembers}
+use Rattle.zir_typed_parts.proofs.Grounds.{Known, KnownIfAny, Ground}
 
 -- what code finds for a component is its value and its outputs, and both are of known types
 pub record Found (n : ℕ) (value output v out : Option Ty) : Type 0 where
@@ -63,7 +63,7 @@ link_value_known n (Some t) (Some u) v h k l = absurd h
 
 mutual
   pub found : {n : ℕ} {R : List ℕ → Visible → Scope → ℕ → Type 0} (ground : Ground n R) (ids : List ℕ)
-      (g : Visible) (sc : Scope) (a : Ty) (d : ℕ) (c : Comp) (out v : Option Ty) → R ids g sc d → Known n a → Proper n ids c →
+      (g : Visible) (sc : Scope) (a : Ty) (d : ℕ) (c : Comp) (out v : Option Ty) → R ids g sc d → Known n a → FormedComp n ids c →
       IsComp g ground.instances a c out v →
       Found n (value_in ground.st sc a d c) (output_in ground.st sc a d c) v out
   found {n} ground ids g sc a d (Take p) out v r known own h = record {
@@ -79,21 +79,21 @@ mutual
     output_known = subst (KnownIfAny n) (sym h.0) tt;
   }
   found {n} ground ids g sc a d (Emit e p) out v r known own h =
-      let x = ground.relates.expression ids g sc d h.0 e r h.4 in record {
+      let x = ground.relates.expression ids g sc d h.0 e r own h.4 in record {
         value_is = sym h.2;
         output_is = ap Some (types_found sc d h.0 e x.0) ∙ sym h.1;
         value_known = subst (KnownIfAny n) (sym h.2) tt;
         output_known = subst (KnownIfAny n) (sym h.1) x.1;
       }
   found {n} ground ids g sc a d (Emits e p) out v r known own h =
-      let x = ground.relates.expression ids g sc d (arr h.1 h.0) e r h.5 in record {
+      let x = ground.relates.expression ids g sc d (arr h.1 h.0) e r own h.5 in record {
         value_is = sym h.3;
         output_is = ap (λ t. Some (element_type t)) (types_found sc d (arr h.1 h.0) e x.0) ∙ sym h.2;
         value_known = subst (KnownIfAny n) (sym h.3) tt;
         output_known = subst (KnownIfAny n) (sym h.2) x.1;
       }
   found {n} ground ids g sc a d (Return e p) out v r known own h =
-      let x = ground.relates.expression ids g sc d h.0 e r h.3 in record {
+      let x = ground.relates.expression ids g sc d h.0 e r own h.3 in record {
         value_is = ap Some (types_found sc d h.0 e x.0) ∙ sym h.2;
         output_is = sym h.1;
         value_known = subst (KnownIfAny n) (sym h.2) x.1;
@@ -114,14 +114,14 @@ mutual
         output_known = x.output_known;
       }
   found {n} ground ids g sc a d (While' turning e _ (more_of-Comp c end_of-Comp) p) out v r known own h =
-      let x = found ground ids g sc a d c out unit_value r known own h.2 in record {
+      let x = found ground ids g sc a d c out unit_value r known own.1 h.2 in record {
         value_is = sym h.0;
         output_is = x.output_is;
         value_known = subst (KnownIfAny n) (sym h.0) tt;
         output_known = x.output_known;
       }
   found {n} ground ids g sc a d (Times' e _ (more_of-Comp c end_of-Comp) p) out v r known own h =
-      let x = found ground ids g sc a (d + 1) c out unit_value (ground.relates.later ids g sc d (d + 1) (omega arith) r) known own h.2 in record {
+      let x = found ground ids g sc a (d + 1) c out unit_value (ground.relates.later ids g sc d (d + 1) (omega arith) r) known own.1 h.2 in record {
         value_is = sym h.0;
         output_is = x.output_is;
         value_known = subst (KnownIfAny n) (sym h.0) tt;
@@ -130,15 +130,15 @@ mutual
   found {n} ground ids g sc a d (For' x e f _ (more_of-Comp c end_of-Comp) p) out v r known own h =
       let r1 = ground.relates.local ids g sc (d + 2) x.id (plain Int32) (ground.relates.later ids g sc d (d + 2) (omega arith) r) tt own.0 in
       let r2 = ground.relates.later (x.id ∷ ids) (with_index x g) (with_code_index sc (d + 2) x.id) (d + 2 + 1) (d + 3) (omega arith) r1 in
-      let y = found ground (x.id ∷ ids) (with_index x g) (with_code_index sc (d + 2) x.id) a (d + 3) c out unit_value r2 known own.1 h.3 in record {
+      let y = found ground (x.id ∷ ids) (with_index x g) (with_code_index sc (d + 2) x.id) a (d + 3) c out unit_value r2 known own.3 h.3 in record {
         value_is = sym h.0;
         output_is = y.output_is;
         value_known = subst (KnownIfAny n) (sym h.0) tt;
         output_known = y.output_known;
       }
   found {n} ground ids g sc a d (If' e _ (more_of-Comp b end_of-Comp) _ (more_of-Comp c end_of-Comp) p) out v r known own h =
-      let x = found ground ids g sc a d b h.0 v r known own.0 h.5 in
-      let y = found ground ids g sc a d c h.1 v r known own.1 h.6 in record {
+      let x = found ground ids g sc a d b h.0 v r known own.1 h.5 in
+      let y = found ground ids g sc a d c h.1 v r known own.2 h.6 in record {
         value_is = x.value_is;
         output_is = ap (λ o. first_there o (output_in ground.st sc a d c)) x.output_is
             ∙ (ap (first_there h.0) (y.output_is ∙ sym (first_single h.1)) ∙ (first_more h.0 (emitted h.1) ∙ sym h.3));
@@ -188,7 +188,7 @@ mutual
 
   pub members_found : {m : _} {n : ℕ} {R : List ℕ → Visible → Scope → ℕ → Type 0} (ground : Ground n R)
       (ids : List ℕ) (g : Visible) (sc : Scope) (a : Ty) (d : ℕ) (ms : Row_of-Member m) (last : Option Ty) (outs : List Ty) (v : Option Ty) →
-      R ids g sc d → Known n a → ProperMembers n ids ms → KnownIfAny n last → AreMembers g ground.instances a last ms outs v →
+      R ids g sc d → Known n a → FormedMembers n ids ms → KnownIfAny n last → AreMembers g ground.instances a last ms outs v →
       Found n (members_value ground.st sc a d last ms) (members_output ground.st sc a d ms) v (first_of outs)
   members_found {m} {n} ground ids g sc a d end_of-Member last outs v r known own l h = record {
     value_is = sym h.1;
@@ -213,7 +213,7 @@ mutual
   members_found {m} {n} ground ids g sc a d (more_of-Member (Var w) ms) last outs v r known own l h =
       let ty : Ty = type_of w.ty in
       members_found ground (w.name.id ∷ ids) (declare (seen_of w ∷ []) g) (with_local sc d w.name.id ty) a (d + cells_for sc ty) ms unit_value outs v
-      (ground.relates.local ids g sc d w.name.id ty r own.1 own.0) known own.2 tt h.1
+      (ground.relates.local ids g sc d w.name.id ty r own.0.1 own.0.0) known own.1 tt h.1
   members_found {m} {n} ground ids g sc a d (more_of-Member (Run c) ms) last outs v r known own l h =
       let y = found ground ids g sc a d c h.0 h.1 r known own.0 h.4 in
       let z = members_found ground ids g sc a d ms h.1 h.2 v r known own.1 y.value_known h.6 in record {

@@ -17,9 +17,8 @@ use Rattle.zir_flow.specs.Program.{more_entries}
 use Rattle.zir_flat.specs.Needs.{instance_needs}
 use Rattle.zir_flat.specs.Programs.{entry_at, one_more_in, entries_from}
 use Rattle.zir_flat.specs.Laws.{InstanceFlows, InstancesFlow}
-use Rattle.zir_typed_parts.specs.Proper.{with_params, ProperInstance, ProperInstances}
-use Rattle.zir_typed_parts.proofs.Grounds.{Relates}
-use Rattle.zir_typed_parts.proofs.Grounds.{EntryFound, HaveAll, Ground}
+use Rattle.zir_typed_code.specs.Forming.{with_params, FormedInstance, FormedInstances}
+use Rattle.zir_typed_parts.proofs.Grounds.{Relates, EntryFound, HaveAll, Ground}
 use Rattle.zir_typed_parts.proofs.Found.{Found, found}
 use Rattle.zir_typed_parts.proofs.Fitting.{flows}
 use Rattle.zir_typed_parts.proofs.Parameters.{with_names, params_relate, params_known}
@@ -45,7 +44,7 @@ pub record Top {n : ℕ} {R : List ℕ → Visible → Scope → ℕ → Type 0}
 
 -- an instance over those before it
 inside_relates : {n : ℕ} {R : List ℕ → Visible → Scope → ℕ → Type 0} (relates : Relates n R) (ids : List ℕ)
-    (top : Visible) (sc : Scope) (i : Instance) → Top relates ids top sc → ProperInstance n ids i →
+    (top : Visible) (sc : Scope) (i : Instance) → Top relates ids top sc → FormedInstance n ids i →
     R (with_params ids i.params) (declare (map param_of i.params) top) (inside sc i.params) (cells_of_all sc i.params)
 inside_relates {n} {R} relates ids top sc i at own =
     let free : 0 + cells_of_all sc i.params ≡ cells_of_all sc i.params = omega arith in
@@ -55,7 +54,7 @@ inside_relates {n} {R} relates ids top sc i at own =
     (params_relate relates ids top sc 0 i.params at.related own.params))
 
 instance_found : {n : ℕ} {R : List ℕ → Visible → Scope → ℕ → Type 0} (ground : Ground n R) (ids : List ℕ)
-    (top : Visible) (sc : Scope) (place : ℕ) (i : Instance) → Top ground.relates ids top sc → ProperInstance n ids i →
+    (top : Visible) (sc : Scope) (place : ℕ) (i : Instance) → Top ground.relates ids top sc → FormedInstance n ids i →
     IsComp (declare (map param_of i.params) top) ground.instances i.input i.body i.emits i.value →
     Found n (entry_at ground.st sc place i).value (entry_at ground.st sc place i).emits i.value i.emits
 instance_found ground ids top sc place i at own h =
@@ -63,7 +62,7 @@ instance_found ground ids top sc place i at own h =
     i.value (inside_relates ground.relates ids top sc i at own) own.input own.body h
 
 instance_flows : {n : ℕ} {R : List ℕ → Visible → Scope → ℕ → Type 0} (ground : Ground n R) (ids : List ℕ)
-    (top : Visible) (sc : Scope) (i : Instance) → Top ground.relates ids top sc → ProperInstance n ids i →
+    (top : Visible) (sc : Scope) (i : Instance) → Top ground.relates ids top sc → FormedInstance n ids i →
     IsComp (declare (map param_of i.params) top) ground.instances i.input i.body i.emits i.value → InstanceFlows ground.st sc i
 instance_flows {n} ground ids top sc i at own h =
     let f = instance_found ground ids top sc 0 i at own h in record {
@@ -101,7 +100,7 @@ have_one_more n st before i e k size all new j x h = picked (get_last before i x
 
 -- what is known of an instance's entry
 new_entry : {n : ℕ} {R : List ℕ → Visible → Scope → ℕ → Type 0} (ground : Ground n R) (ids : List ℕ)
-    (top : Visible) (sc : Scope) (place : ℕ) (i : Instance) → Top ground.relates ids top sc → ProperInstance n ids i →
+    (top : Visible) (sc : Scope) (place : ℕ) (i : Instance) → Top ground.relates ids top sc → FormedInstance n ids i →
     IsComp (declare (map param_of i.params) top) ground.instances i.input i.body i.emits i.value →
     (st' : Setting) (j : ℕ) → st'.entries j ≡ Some (entry_at ground.st sc place i) → EntryFound n st' j i
 new_entry ground ids top sc place i at own h st' j e =
@@ -124,7 +123,7 @@ pub record Placed (n : ℕ) (st : Setting) (sc : Scope) (before : List Instance)
 -- all instances are well typed, each over those before it, and all have their entries behind the last
 pub instances_placed : {n : ℕ} {R : List ℕ → Visible → Scope → ℕ → Type 0} (relates : Relates n R)
     (ids : List ℕ) (top : Visible) (sc : Scope) (st : Setting) (before : List Instance) (k place : ℕ) (is : List Instance) → Top relates ids top sc →
-    length before ≡ k → HaveAll n st before → ProperInstances n ids is → AreInstances top before is → Placed n st sc before k place is
+    length before ≡ k → HaveAll n st before → FormedInstances n ids is → AreInstances top before is → Placed n st sc before k place is
 instances_placed {n} relates ids top sc st before k place [] at size all own h =
     record { flow = tt; entries = subst (HaveAll n st) (sym (append-nil before)) all }
 instances_placed {n} relates ids top sc st before k place (i ∷ is) at size all own h =

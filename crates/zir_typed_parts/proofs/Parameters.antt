@@ -14,7 +14,7 @@ use Rattle.zir_code.specs.Types.{cells_for}
 use Rattle.zir_code.specs.Statements.{with_local}
 use Rattle.zir_code.specs.Bodies.{ParametersKnown, parameters, cells_of_all}
 use Rattle.zir_sound.specs.Statements.{param_of}
-use Rattle.zir_typed_parts.specs.Proper.{with_params, ProperParams}
+use Rattle.zir_typed_code.specs.Forming.{with_params, FormedParams}
 use Rattle.zir_typed_parts.proofs.Grounds.{Relates}
 
 -- a scope with more names inside
@@ -34,7 +34,7 @@ same_cells sc ds (p ∷ ps) = ap (λ n. cells_for sc (type_of p.ty) + n) (same_c
 
 -- the parameters of an instance come into scope
 pub params_relate : {n : ℕ} {R : List ℕ → Visible → Scope → ℕ → Type 0} (relates : Relates n R) (ids : List ℕ)
-    (g : Visible) (sc : Scope) (d : ℕ) (ps : List Field) → R ids g sc d → ProperParams n ids ps →
+    (g : Visible) (sc : Scope) (d : ℕ) (ps : List Field) → R ids g sc d → FormedParams n ids ps →
     R (with_params ids ps) (declare (map param_of ps) g) (with_names sc (parameters sc d ps)) (d + cells_of_all sc ps)
 params_relate {n} {R} relates ids g sc d [] r own =
     subst (λ vs. R ids (record g { variables = vs }) (with_names sc []) (d + 0)) (sym (append-nil g.variables))
@@ -54,7 +54,7 @@ params_relate {n} {R} relates ids g sc d (p ∷ ps) r own =
     (subst (λ ds. R (with_params ids (p ∷ ps)) (declare (map param_of ps) g') (record sc { locals = ds }) (d + cells_for sc t + cells_of_all sc' ps)) names r'))
 
 -- their types are known
-pub params_known : (n : ℕ) (ids : List ℕ) (sc : Scope) (ps : List Field) → n ≡ length sc.structs → ProperParams n ids ps → ParametersKnown sc ps
+pub params_known : (n : ℕ) (ids : List ℕ) (sc : Scope) (ps : List Field) → n ≡ length sc.structs → FormedParams n ids ps → ParametersKnown sc ps
 params_known n ids sc [] e own = tt
 params_known n ids sc (p ∷ ps) e own =
     (subst (λ n. StructsBefore n (type_of p.ty).base) e own.1, params_known n (p.name.id ∷ ids) sc ps e own.2)

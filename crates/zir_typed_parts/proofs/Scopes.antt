@@ -1,57 +1,46 @@
--- One more name, for types and for code.
-use Rattle.std.specs.Prelude.{ℕ, ◌+◌, ◌≤◌, List, [], ◌∷◌, ◌++◌, Option, Some, None, Bool, true, false, ◌||◌, if◌then◌else◌, ◌≡◌, nat_eq}
+-- What types see, and what code has in scope.
+use Rattle.std.specs.Prelude.{ℕ, ◌+◌, ◌≤◌, List, [], ◌∷◌, ◌++◌, Option, Some, None, false, ◌≡◌, nat_eq, length}
 use Rattle.std.proofs.Common.{ap, ◌∙◌, sym, subst, refl, arith}
-use Rattle.std.proofs.lemmas.Bool.{ne_eqb, eqb-false, eqb-true}
+use Rattle.std.proofs.lemmas.Bool.{ne_eqb, eqb-false}
 use Rattle.zir_tree.specs.declared.types.Ty.{Ty}
-use Rattle.zir_types.specs.declared.scope.Seen.{Seen}
-use Rattle.zir_types.specs.Scope.{Visible, declare, variable as seen_variable, type_in}
+use Rattle.zir_tree.specs.declared.stmt.Stmt.{Stmt, Var as VarStmt, Assign, Call as CallStmt, Error, If', IfElse', While', For'}
+use Rattle.zir_tree.specs.declared.stmt.Return.{Return}
+use Rattle.zir_tree.specs.declared.stmt.Body.{Body}
+use Rattle.zir_types.specs.declared.scope.Signature.{Signature}
+use Rattle.zir_types.specs.Scope.{Visible, declare, variable}
 use Rattle.zir_shapes.specs.Shapes.{StructsBefore}
 use Rattle.zir_expr.specs.declared.frame.Spot.{Spot}
 use Rattle.zir_expr.specs.declared.frame.Spot.TheVariants.{Top, Local}
 use Rattle.zir_code.specs.declared.scope.Holder.{Holder}
-use Rattle.zir_code.specs.Scopes.{Scope, found_among}
+use Rattle.zir_code.specs.Scopes.{Scope}
 use Rattle.zir_code.specs.Types.{cells_for}
-use Rattle.zir_code.specs.Typing.{SpotFits, HolderFits}
+use Rattle.zir_code.specs.Typing.{SpotFits}
+use Rattle.zir_code.specs.Needs.{all_peak}
 use Rattle.zir_code.specs.Fine.{Absent}
-use Rattle.zir_code.specs.Statements.{with_local}
-use Rattle.zir_flow.specs.Fitting.{Distinct, Apart}
-use Rattle.zir_typed_parts.specs.Proper.{Known, is_in}
-use Rattle.zir_typed_parts.specs.Related.{VariableFound, IsNew, Sees, ExpressionsFit, BodiesFound, BodiesFit}
-use Rattle.zir_typed_parts.proofs.Grounds.{Relates}
+use Rattle.zir_code.specs.Statements.{with_local, scope_after, free_after}
+use Rattle.zir_code.specs.Bodies.{scope_after_all, free_after_all}
+use Rattle.zir_code.proofs.TypesFound.{types_found}
+use Rattle.zir_sound.specs.Statements.{IsBody, Returns, behind}
+use Rattle.zir_sound.specs.Laws.{is_in}
+use Rattle.zir_flow.specs.Kinds.{returned_type, body_type}
+use Rattle.zir_flow.specs.Fitting.{Distinct, Apart, ReturnFits, DoFits}
+use Rattle.zir_flat.specs.Needs.{returned_peak, do_peak}
+use Rattle.zir_typed_code.specs.Forming.{FilledReturn, FormedBody, numbers_behind}
+use Rattle.zir_typed_code.specs.Scopes.{Finds, MayCall, IsNew, SameScope}
+use Rattle.zir_typed_code.specs.Laws.{ValuesAreKnown, return_peak, ValueFits}
+use Rattle.zir_typed_parts.specs.Laws.{CodeFits}
+use Rattle.zir_typed_parts.proofs.Grounds.{Known, FunctionFound, Relates}
 
--- a number that none of these has, and none of those before them
-pub either_false : (a b : Bool) → (a || b) ≡ false → (a ≡ false) × (b ≡ false)
-either_false true b h = absurd cc
-either_false false b h = (refl, h)
+-- code has in scope what is seen, where its cells from d on are free and the program has n structs, and no two of its variables have one number
+pub record Related (n : ℕ) (ids : List ℕ) (g : Visible) (sc : Scope) (d : ℕ) : Type 0 where
+  pub same : SameScope ids g sc d
+  pub count : n ≡ length sc.structs
+  pub tops : Distinct sc.tops
+  pub locals : Distinct sc.locals
+  pub apart : Apart sc.locals sc.tops
 
-pub not_same : (a b : ℕ) → nat_eq a b ≡ false → nat_eq b a ≡ false
+not_same : (a b : ℕ) → nat_eq a b ≡ false → nat_eq b a ≡ false
 not_same a b h = ne_eqb b a (λ e. eqb-false a b h (sym e))
-
--- VARIABLES BEHIND OTHERS
-
-type_others : (vs : List Seen) (v : Seen) (id : ℕ) → nat_eq v.id id ≡ false → type_in (vs ++ v ∷ []) id ≡ type_in vs id
-type_others [] v id h = ap (λ b. if b then Some v.ty else None) h
-type_others (w ∷ vs) v id h = ap (λ o. if nat_eq w.id id then Some w.ty else o) (type_others vs v id h)
-
-type_last : (vs : List Seen) (v : Seen) (id : ℕ) → type_in vs id ≡ None → nat_eq v.id id ≡ true → type_in (vs ++ v ∷ []) id ≡ Some v.ty
-type_last [] v id none h = ap (λ b. if b then Some v.ty else None) h
-type_last (w ∷ vs) v id none h = at (nat_eq w.id id) none (λ e. type_last vs v id e h)
-  where
-    at : (b : Bool) → (if b then Some w.ty else type_in vs id) ≡ None → (type_in vs id ≡ None → type_in (vs ++ v ∷ []) id ≡ Some v.ty) →
-        (if b then Some w.ty else type_in (vs ++ v ∷ []) id) ≡ Some v.ty
-    at true e rest = absurd cc
-    at false e rest = rest e
-
-found_others : (other : Option Holder) (ds : List Holder) (d : Holder) (id : ℕ) → nat_eq d.id id ≡ false →
-    found_among other (ds ++ d ∷ []) id ≡ found_among other ds id
-found_others other [] d id h = ap (λ b. if b then Some d else other) h
-found_others other (e ∷ ds) d id h = ap (λ o. if nat_eq e.id id then Some e else o) (found_others other ds d id h)
-
-found_last : (other : Option Holder) (ds : List Holder) (d : Holder) (id : ℕ) → Absent ds id → nat_eq d.id id ≡ true →
-    found_among other (ds ++ d ∷ []) id ≡ Some d
-found_last other [] d id none h = ap (λ b. if b then Some d else other) h
-found_last other (e ∷ ds) d id none h =
-    ap (λ b. if b then Some e else found_among other (ds ++ d ∷ []) id) none.0 ∙ found_last other ds d id none.1 h
 
 absent_more : (ds : List Holder) (d : Holder) (id : ℕ) → Absent ds id → nat_eq d.id id ≡ false → Absent (ds ++ d ∷ []) id
 absent_more [] d id h e = (e, tt)
@@ -65,93 +54,137 @@ apart_more : (ds : List Holder) (d : Holder) (others : List Holder) → Apart ds
 apart_more [] d others h none = (none, tt)
 apart_more (x ∷ ds) d others h none = (h.0, apart_more ds d others h.1 none)
 
--- ONE MORE NAME
+-- MORE CELLS IN USE
 
 spot_later : (s : Spot) (k d d' : ℕ) → d ≤ d' → SpotFits d s k → SpotFits d' s k
 spot_later (Top o) k d d' le h = tt
 spot_later (Local o) k d d' le h = omega arith
 
-found_later : (sc : Scope) (d d' id : ℕ) (t : Ty) → d ≤ d' → VariableFound sc d id t → VariableFound sc d' id t
-found_later sc d d' id t le x = record {
-  is = x.is;
+finds_later : (sc : Scope) (d d' id : ℕ) (t : Ty) → d ≤ d' → Finds sc d id t → Finds sc d' id t
+finds_later sc d d' id t le x = record {
+  holder = x.holder;
   found = x.found;
-  ty = x.ty;
-  fits = record { cells = x.fits.cells; known = x.fits.known; spot = spot_later x.is.spot x.is.cells d d' le x.fits.spot };
+  sole = x.sole;
+  type_is = x.type_is;
+  fits = record { cells = x.fits.cells; known = x.fits.known; spot = spot_later x.holder.spot x.holder.cells d d' le x.fits.spot };
 }
 
--- more cells in use
-pub sees_later : (n : ℕ) (ids : List ℕ) (g : Visible) (sc : Scope) (d d' : ℕ) → d ≤ d' → Sees n ids g sc d → Sees n ids g sc d'
-sees_later n ids g sc d d' le s = record {
-  count = s.count;
-  ordered = s.ordered;
+same_later : (ids : List ℕ) (g : Visible) (sc : Scope) (d d' : ℕ) → d ≤ d' → SameScope ids g sc d → SameScope ids g sc d'
+same_later ids g sc d d' le s = record {
   structs = s.structs;
+  ordered = s.ordered;
+  variables = λ id t h. finds_later sc d d' id t le (s.variables id t h);
   functions = s.functions;
-  variables = λ id t h. found_later sc d d' id t le (s.variables id t h);
-  tops = s.tops;
-  locals = s.locals;
-  apart = s.apart;
-  new = s.new;
+  numbers = s.numbers;
 }
 
--- one more name that is new, in the first free cells
-pub sees_local : (n : ℕ) (ids : List ℕ) (g : Visible) (sc : Scope) (d id : ℕ) (t : Ty) → Sees n ids g sc d → Known n t → is_in ids id ≡ false →
-    Sees n (id ∷ ids) (declare (seen_variable id t ∷ []) g) (with_local sc d id t) (d + cells_for sc t)
-sees_local n ids g sc d id t s known fresh =
-    let h : Holder = record { id = id; spot = Local d; cells = cells_for sc t; ty = t } in
-    let v : Seen = seen_variable id t in
-    let sc' : Scope = with_local sc d id t in
-    let d' : ℕ = d + cells_for sc t in
-    let new : IsNew g sc id = s.new id fresh in
-    let fits : HolderFits sc' d' h = record { cells = refl; known = subst (λ n. StructsBefore n t.base) s.count known; spot = omega arith } in
-    record {
-      count = s.count;
-      ordered = s.ordered;
-      structs = s.structs;
-      functions = λ k f e. (let x = s.functions k f e in
-          record { is = x.is; found = x.found; params = x.params; result = x.result; known = x.known });
-      variables = λ x u e. seen x u e (nat_eq id x) refl;
-      tops = s.tops;
-      locals = distinct_more sc.locals h s.locals new.locals;
-      apart = apart_more sc.locals h sc.tops s.apart new.tops;
-      new = λ x e.
-          (let parts = either_false (nat_eq id x) (is_in ids x) e in
-          let old : IsNew g sc x = s.new x parts.1 in
-          record { typed = type_others g.variables v x parts.0 ∙ old.typed; tops = old.tops; locals = absent_more sc.locals h x old.locals parts.0 });
-    }
-  where
-    seen : (x : ℕ) (u : Ty) → type_in (g.variables ++ seen_variable id t ∷ []) x ≡ Some u → (b : Bool) → nat_eq id x ≡ b →
-        VariableFound (with_local sc d id t) (d + cells_for sc t) x u
-    seen x u e true same =
-        let h : Holder = record { id = id; spot = Local d; cells = cells_for sc t; ty = t } in
-        let is : id ≡ x = eqb-true id x same in
-        let new : IsNew g sc x = subst (IsNew g sc) is (s.new id fresh) in
-        let typed : Some t ≡ Some u = sym (type_last g.variables (seen_variable id t) x new.typed same) ∙ e in
-        record {
-          is = h;
-          found = found_last (found_among None sc.tops x) sc.locals h x new.locals same;
-          ty = cc;
-          fits = record { cells = refl; known = subst (λ n. StructsBefore n t.base) s.count known; spot = omega arith };
-        }
-    seen x u e false other =
-        let h : Holder = record { id = id; spot = Local d; cells = cells_for sc t; ty = t } in
-        let y = found_later sc d (d + cells_for sc t) x u (omega arith)
-        (s.variables x u (sym (type_others g.variables (seen_variable id t) x other) ∙ e)) in
-        record {
-          is = y.is;
-          found = found_others (found_among None sc.tops x) sc.locals h x other ∙ y.found;
-          ty = y.ty;
-          fits = record { cells = y.fits.cells; known = y.fits.known; spot = y.fits.spot };
-        }
+related_later : (n : ℕ) (ids : List ℕ) (g : Visible) (sc : Scope) (d d' : ℕ) → d ≤ d' → Related n ids g sc d → Related n ids g sc d'
+related_later n ids g sc d d' le r =
+    record { same = same_later ids g sc d d' le r.same; count = r.count; tops = r.tops; locals = r.locals; apart = r.apart }
 
--- where expressions and bodies fit, the relation keeps and gives what components stand on
-pub sees_relates : (n : ℕ) → ExpressionsFit n → BodiesFound n → BodiesFit n → Relates n (Sees n)
-sees_relates n expressions found fit = record {
-  later = λ ids g sc d d' le s. sees_later n ids g sc d d' le s;
-  local = λ ids g sc d id t s known fresh. sees_local n ids g sc d id t s known fresh;
-  structs = λ ids g sc d s. s.count;
-  distinct = λ ids g sc d s. (s.tops, s.locals, s.apart);
-  expression = expressions;
-  function = λ ids g sc d k f s e. s.functions k f e;
-  body = found;
-  body_fits = fit;
+-- ONE MORE NAME
+
+related_local : (n : ℕ) → CodeFits → (ids : List ℕ) (g : Visible) (sc : Scope) (d id : ℕ) (t : Ty) → Related n ids g sc d → Known n t →
+    is_in ids id ≡ false → Related n (id ∷ ids) (declare (variable id t ∷ []) g) (with_local sc d id t) (d + cells_for sc t)
+related_local n fits ids g sc d id t r known fresh =
+    let d' : ℕ = d + cells_for sc t in
+    let h : Holder = record { id = id; spot = Local d; cells = cells_for sc t; ty = t } in
+    let new : IsNew sc id = r.same.numbers id fresh in
+    record {
+      same = fits.locals ids g sc d' (same_later ids g sc d d' (omega arith) r.same) d id t fresh (subst (λ n. StructsBefore n t.base) r.count known)
+          (omega arith);
+      count = r.count;
+      tops = r.tops;
+      locals = distinct_more sc.locals h r.locals new.locals;
+      apart = apart_more sc.locals h sc.tops r.apart new.tops;
+    }
+
+-- FUNCTIONS
+
+function_found : (n : ℕ) (ids : List ℕ) (g : Visible) (sc : Scope) (d k : ℕ) (s : Signature) → Related n ids g sc d → MayCall sc k s →
+    FunctionFound n sc k s
+function_found n ids g sc d k s r x = record {
+  is = x.made;
+  found = x.found;
+  params = x.params;
+  result = x.result;
+  known = subst (λ n. StructsBefore n s.result.base) (sym r.count) x.known;
+}
+
+-- BODIES
+
+same_structs : (sc : Scope) (d : ℕ) (s : Stmt) → (scope_after sc d s).structs ≡ sc.structs
+same_structs sc d (VarStmt v) = refl
+same_structs sc d (Assign x steps e) = refl
+same_structs sc d (CallStmt f k es) = refl
+same_structs sc d (Error text p) = refl
+same_structs sc d (If' e _ ss p) = refl
+same_structs sc d (IfElse' e _ ss _ us p) = refl
+same_structs sc d (While' e _ ss p) = refl
+same_structs sc d (For' x a k _ ss p) = refl
+
+same_structs_all : (sc : Scope) (d : ℕ) (ss : List Stmt) → (scope_after_all sc d ss).structs ≡ sc.structs
+same_structs_all sc d [] = refl
+same_structs_all sc d (s ∷ ss) = same_structs_all (scope_after sc d s) (free_after sc d s) ss ∙ same_structs sc d s
+
+same_peak : (sc : Scope) (d : ℕ) (r : Option Return) → returned_peak sc d r ≡ return_peak sc d r
+same_peak sc d None = refl
+same_peak sc d (Some r) = refl
+
+value_type : (sc : Scope) (d k : ℕ) (t : Ty) (r : Option Return) → ValueFits sc d k t r → returned_type sc r ≡ t
+value_type sc d k t None h = sym h
+value_type sc d k t (Some r) h = types_found sc k t r.value h.0
+
+value_fits : (sc : Scope) (d k : ℕ) (t : Ty) (r : Option Return) → ValueFits sc d k t r → ReturnFits sc d k t r
+value_fits sc d k t None h = h
+value_fits sc d k t (Some r) h = h
+
+value_known : (n : ℕ) → ValuesAreKnown → (ids : List ℕ) (g : Visible) (sc : Scope) (k : ℕ) (t : Ty) (r : Option Return) → SameScope ids g sc k →
+    n ≡ length sc.structs → FilledReturn r → Returns g t r → Known n t
+value_known n values ids g sc k t None s count filled h = subst (Known n) (sym h) tt
+value_known n values ids g sc k t (Some r) s count filled h =
+    subst (λ n. StructsBefore n t.base) (sym count) (values ids g sc k s t r.value filled h).1
+
+body_found : (n : ℕ) → CodeFits → (ids : List ℕ) (g : Visible) (sc : Scope) (d : ℕ) (t : Ty) (b : Body) → Related n ids g sc d → FormedBody n ids b →
+    IsBody g t b → (body_type sc d b ≡ t) × Known n t
+body_found n fits ids g sc d t b r formed is =
+    let sc' : Scope = scope_after_all sc d b.statements in
+    let free : ℕ = free_after_all sc d b.statements in
+    let k : ℕ = d + (all_peak sc d b.statements + return_peak sc' free b.result) in
+    let same : SameScope ids g sc k = same_later ids g sc d k (omega arith) r.same in
+    let formed' : FormedBody (length sc.structs) ids b = subst (λ n. FormedBody n ids b) r.count formed in
+    let fine = fits.bodies ids g sc k same d t b formed' is (omega arith) (omega arith) in
+    let after : SameScope (numbers_behind ids b.statements) (behind g b.statements) sc' k =
+    fits.scopes ids g sc k same d b.statements formed'.0 is.statements (omega arith) in (
+      value_type sc' free k t b.result fine.1,
+      value_known n fits.values (numbers_behind ids b.statements) (behind g b.statements) sc' k t b.result after
+          (r.count ∙ ap length (sym (same_structs_all sc d b.statements))) formed.1 is.result,
+    )
+
+body_fits : (n : ℕ) → CodeFits → (ids : List ℕ) (g : Visible) (sc : Scope) (d k : ℕ) (t : Ty) (b : Body) → Related n ids g sc d → FormedBody n ids b →
+    IsBody g t b → d ≤ k → do_peak sc d b ≤ k → DoFits sc d k b
+body_fits n fits ids g sc d k t b r formed is le peak =
+    let sc' : Scope = scope_after_all sc d b.statements in
+    let free : ℕ = free_after_all sc d b.statements in
+    let same : SameScope ids g sc k = same_later ids g sc d k le r.same in
+    let equal : returned_peak sc' free b.result ≡ return_peak sc' free b.result = same_peak sc' free b.result in
+    let found : body_type sc d b ≡ t = (body_found n fits ids g sc d t b r formed is).0 in
+    let size : cells_for sc (body_type sc d b) ≡ cells_for sc t = ap (cells_for sc) found in
+    let fine = fits.bodies ids g sc k same d t b (subst (λ n. FormedBody n ids b) r.count formed) is (omega arith) (omega arith) in
+    (t, fine.0, omega arith, value_fits sc' free k t b.result fine.1)
+
+-- where the code below components fits, the relation keeps and gives what components stand on
+pub related_relates : (n : ℕ) → CodeFits → Relates n (Related n)
+related_relates n fits = record {
+  later = λ ids g sc d d' le r. related_later n ids g sc d d' le r;
+  local = λ ids g sc d id t r known fresh. related_local n fits ids g sc d id t r known fresh;
+  structs = λ ids g sc d r. r.count;
+  distinct = λ ids g sc d r. (r.tops, r.locals, r.apart);
+  expression = λ ids g sc d t e r filled h. (
+    fits.expressions ids g sc d r.same t e filled h,
+    subst (λ n. StructsBefore n t.base) (sym r.count) (fits.values ids g sc d r.same t e filled h).1,
+  );
+  function = λ ids g sc d k s r e. function_found n ids g sc d k s r (r.same.functions k s e);
+  body = λ ids g sc d t b r formed is. body_found n fits ids g sc d t b r formed is;
+  body_fits = λ ids g sc d k t b r formed is le peak. body_fits n fits ids g sc d k t b r formed is le peak;
 }

@@ -1,3 +1,2 @@
-pub mod Proper
-pub mod Related
+pub mod Signed
 pub mod Laws
