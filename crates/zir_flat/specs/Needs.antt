@@ -13,7 +13,7 @@ use Rattle.zir_code.specs.Peaks.{needs_of, peak_of, peak_of_all}
 use Rattle.zir_code.specs.Needs.{all_peak, initial_peak}
 use Rattle.zir_code.specs.Statements.{with_local, with_index}
 use Rattle.zir_code.specs.Bodies.{scope_after_all, free_after_all, cells_of_all, inside}
-use Rattle.zir_flow.specs.Kinds.{Entry, Setting, valued, body_type, value_in, output_in}
+use Rattle.zir_flow.specs.Kinds.{Entry, Setting, valued, body_type, type_between, value_in, output_in}
 
 -- the first cell behind all that the value of a body uses, if it has one
 abbrev pub returned_peak : Scope → ℕ → Option Return → ℕ
@@ -57,7 +57,7 @@ abbrev mutual
       max (peak_of_all g es d) (d + max (cells_for g (type_or_unit (valued (st.entries k)))) (entry_needs (st.entries k)))
   flow_peak st g input d (Block' _ ms p) = members_peak st g input d ms
   flow_peak st g input d (Pipe' link _ (more_of-Comp a end_of-Comp) _ (more_of-Comp b end_of-Comp) p) =
-      let between = type_or_unit (output_in st g input d a) in
+      let between = type_between (output_in st g input d a) in
       max (d + max (cells_for g (type_or_unit (value_in st g input d a))) (cells_for g (type_or_unit (value_in st g between d b))))
       (max (flow_peak st g input d a) (flow_peak st g between d b))
 

@@ -27,7 +27,7 @@ use Rattle.zir_flow.specs.declared.instruction.Instruction.{Instruction}
 use Rattle.zir_flow.specs.declared.instruction.Instruction.TheVariants.{Pipe, Stop}
 use Rattle.zir_flow.specs.Threads.{Thread, cells_from, written}
 use Rattle.zir_flow.specs.Stages.{Stage, Alone, Joined, Room, Closed, Open, brought_back, seen, room_of, emptied, left_begins, right_begins, left_ended, right_ended}
-use Rattle.zir_flow.specs.Kinds.{Shape, Flat, Split, first_of, value_in, output_in}
+use Rattle.zir_flow.specs.Kinds.{Shape, Flat, Split, first_of, type_between, value_in, output_in}
 use Rattle.zir_flow.specs.Flowing.{back_of, flow_code}
 use Rattle.zir_flow.specs.Fitting.{Distinct, OneEnds, RoomFits, depth_of, shape_of}
 use Rattle.zir_flow.specs.Playing.{PointIs}
@@ -368,7 +368,7 @@ joint_arrives a g input between out d place sl sr vl vr ids j th spare l r s lef
 pub pipe_arrives : (a : Ground) (link : Link) (l r : Comp) (p : Place) → ((b : Ground) → ComponentArrives b l) → ((b : Ground) → ComponentArrives b r) →
     ComponentArrives a (Pipe' link _ (more_of-Comp l end_of-Comp) _ (more_of-Comp r end_of-Comp) p)
 pipe_arrives a link l r p al ar g input out d place th room s x flows code deep covers h =
-    let between : Ty = type_or_unit (output_in a.st g input d l) in
+    let between : Ty = type_between (output_in a.st g input d l) in
     let vl : Option Ty = value_in a.st g input d l in
     let vr : Option Ty = value_in a.st g between d r in
     let ids : List ℕ = assigns (around a.core).assigned l in

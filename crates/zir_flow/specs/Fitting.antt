@@ -19,7 +19,7 @@ use Rattle.zir_code.specs.Fine.{Absent, Fits, InitialFits}
 use Rattle.zir_code.specs.Statements.{with_local, with_index}
 use Rattle.zir_code.specs.Bodies.{scope_after_all, free_after_all, FineAll}
 use Rattle.zir_flow.specs.Stages.{Room, Closed, Open}
-use Rattle.zir_flow.specs.Kinds.{Shape, Flat, Split, Entry, Setting, value_in, output_in}
+use Rattle.zir_flow.specs.Kinds.{Shape, Flat, Split, Entry, Setting, type_between, value_in, output_in}
 
 -- the numbers of these variables are distinct
 abbrev pub Distinct : List Holder → Type 0
@@ -80,7 +80,7 @@ abbrev mutual
       × (d + max (cells_for g (type_or_unit e.value)) e.needs ≤ n)
   Flows st g n input out d (Block' _ ms p) = MembersFlow st g n input out d ms
   Flows st g n input out d (Pipe' link _ (more_of-Comp a end_of-Comp) _ (more_of-Comp b end_of-Comp) p) =
-      let between = type_or_unit (output_in st g input d a) in
+      let between = type_between (output_in st g input d a) in
       OneEnds (value_in st g input d a) (value_in st g between d b) × Distinct g.tops × Distinct g.locals × Apart g.locals g.tops
       × (d + max (cells_for g (type_or_unit (value_in st g input d a))) (cells_for g (type_or_unit (value_in st g between d b))) ≤ n)
       × Flows st g n input between d a × Flows st g n between out d b

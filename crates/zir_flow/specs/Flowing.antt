@@ -28,7 +28,7 @@ use Rattle.zir_code.specs.Bodies.{all_code, scope_after_all, free_after_all, cel
 use Rattle.zir_flow.specs.declared.instruction.Back.{Back}
 use Rattle.zir_flow.specs.declared.instruction.Instruction.{Instruction}
 use Rattle.zir_flow.specs.declared.instruction.Instruction.TheVariants.{Run, Tick, Take, Takes, Give, Gives, Ahead, Again, Branch, Turn, Enter, Leave, Pipe, Stop}
-use Rattle.zir_flow.specs.Kinds.{Entry, Setting, value_in, output_in}
+use Rattle.zir_flow.specs.Kinds.{Entry, Setting, type_between, value_in, output_in}
 
 -- straight code, if there is any
 abbrev pub run_some : List Step → List Instruction
@@ -130,7 +130,7 @@ abbrev mutual
   flow_code st g input d (Call name k es) = Run (code_of_all g es d) ∷ Tick ∷ enter_code (st.entries k) d
   flow_code st g input d (Block' _ ms p) = members_code st g input d d d (plain UnitTy) ms
   flow_code st g input d (Pipe' link _ (more_of-Comp a end_of-Comp) _ (more_of-Comp b end_of-Comp) p) =
-      let between = type_or_unit (output_in st g input d a) in
+      let between = type_between (output_in st g input d a) in
       pipe_code d (cells_for g (type_or_unit (value_in st g input d a))) (back_of (assigns st.assigned a) g)
       (flow_code st g input d a) (flow_code st g between d b)
 

@@ -1,6 +1,6 @@
 -- What a component's value and outputs are, as its code finds them, and what instances are to their callers.
 use Rattle.std.specs.Prelude.{ℕ, ◌+◌, List, Option, Some, None}
-use Rattle.zir_tree.specs.declared.types.Base.TheVariants.{Unit as UnitTy}
+use Rattle.zir_tree.specs.declared.types.Base.TheVariants.{Unit as UnitTy, Bit as BitTy}
 use Rattle.zir_tree.specs.declared.types.Ty.{Ty}
 use Rattle.zir_tree.specs.declared.stmt.Body.{Body}
 use Rattle.zir_tree.specs.declared.stmt.Return.{Return}
@@ -41,6 +41,11 @@ abbrev pub first_of : {A : Type 0} → Option A → Option A → Option A
 first_of (Some a) b = Some a
 first_of None b = b
 
+-- the type of the elements that a left side with these outputs gives, and bit where it gives nothing
+abbrev pub type_between : Option Ty → Ty
+type_between None = plain BitTy
+type_between (Some ty) = ty
+
 -- the outputs of an instance, if there is one
 abbrev pub emitted : Option Entry → Option Ty
 emitted None = None
@@ -79,7 +84,7 @@ abbrev mutual
   value_in st g input d (Call name k es) = valued (st.entries k)
   value_in st g input d (Block' _ ms p) = members_value st g input d (Some (plain UnitTy)) ms
   value_in st g input d (Pipe' link _ (more_of-Comp a end_of-Comp) _ (more_of-Comp b end_of-Comp) p) =
-      first_of (value_in st g input d a) (value_in st g (type_or_unit (output_in st g input d a)) d b)
+      first_of (value_in st g input d a) (value_in st g (type_between (output_in st g input d a)) d b)
 
   -- the same of the members of a block, the last one before them having this value
   pub members_value : {k : _} → Setting → Scope → Ty → ℕ → Option Ty → Row_of-Member k → Option Ty
@@ -111,7 +116,7 @@ abbrev mutual
   output_in st g input d (Call name k es) = emitted (st.entries k)
   output_in st g input d (Block' _ ms p) = members_output st g input d ms
   output_in st g input d (Pipe' link _ (more_of-Comp a end_of-Comp) _ (more_of-Comp b end_of-Comp) p) =
-      output_in st g (type_or_unit (output_in st g input d a)) d b
+      output_in st g (type_between (output_in st g input d a)) d b
 
   -- the same of the members of a block
   pub members_output : {k : _} → Setting → Scope → Ty → ℕ → Row_of-Member k → Option Ty

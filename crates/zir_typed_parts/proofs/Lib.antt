@@ -1,0 +1,8 @@
+pub mod Grounds
+pub mod Found
+pub mod Fitting
+pub mod Parameters
+pub mod Instances
+pub mod Scopes
+pub mod Tops
+pub mod Cores
