@@ -77,7 +77,7 @@ sole_last : (ds : List Holder) (h : Holder) (id : ℕ) → Absent ds id → nat_
 sole_last [] h id a e = inl (e, refl, tt)
 sole_last (d ∷ ds) h id a e = inr (a.0, sole_last ds h id a.1 e)
 
-neither : (a b : Bool) → (a || b) ≡ false → (a ≡ false) × (b ≡ false)
+pub neither : (a b : Bool) → (a || b) ≡ false → (a ≡ false) × (b ≡ false)
 neither true b h = absurd cc
 neither false b h = (refl, h)
 

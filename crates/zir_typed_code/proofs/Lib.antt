@@ -4,3 +4,6 @@ pub mod Expressions
 pub mod Known
 pub mod Coming
 pub mod Statements
+pub mod Tops
+pub mod Functions
+pub mod Initials

@@ -3,6 +3,7 @@
 #![tactic(auto)]
 
 ghost use Rattle.zir_typed_code.specs.Laws.{BodiesFit, ExpressionsFit, ListsFit, LocalsComeIn, ParametersComeIn, ScopesGoOn, StatementsFit, ValuesAreKnown};
+ghost use Rattle.zir_typed_code.specs.Programs.{FunctionsFit, InitialsFit, SignaturesAreFound, TopIsSame, TypesAreKnown};
 
 /// A typed expression has its type in code too.
 pub fn expressions_fit()
@@ -42,4 +43,29 @@ pub fn scopes_go_on()
 /// Typed bodies are what code asks for.
 pub fn bodies_fit()
     ensures { BodiesFit }
+{}
+
+/// At the top of a program both sides have the same in scope.
+pub fn top_is_same()
+    ensures { TopIsSame }
+{}
+
+/// The functions of a typed program are what code asks for.
+pub fn functions_fit()
+    ensures { FunctionsFit }
+{}
+
+/// Each function of a program is found at its place.
+pub fn signatures_are_found()
+    ensures { SignaturesAreFound }
+{}
+
+/// The initial values of top variables are what code asks for.
+pub fn initials_fit()
+    ensures { InitialsFit }
+{}
+
+/// The types of a well formed program are known.
+pub fn types_are_known()
+    ensures { TypesAreKnown }
 {}
