@@ -29,14 +29,14 @@ use Rattle.zir_typed_code.proofs.Rules.{whole_type, holds_number, half_types, op
 use Rattle.zir_typed_code.proofs.Places.{struct_here, part_fits}
 
 -- What is called, as a function or a struct that is seen.
-called_function : (v : Visible) (k : ℕ) (o : Option Signature) (c : Called) → slice_get v.functions k ≡ o → function_at k o ≡ Some c →
+pub called_function : (v : Visible) (k : ℕ) (o : Option Signature) (c : Called) → slice_get v.functions k ≡ o → function_at k o ≡ Some c →
     (s : Signature) × (slice_get v.functions k ≡ Some s) × (c.params ≡ s.params) × (c.result ≡ s.result)
 called_function v k None c e h = absurd cc
 called_function v k (Some s) c e h =
     let q : (let d : Called = record { callee = Function k; params = s.params; result = s.result } in d) ≡ c = cc in
     (s, e, ap (λ (d : Called). d.params) (sym q), ap (λ (d : Called). d.result) (sym q))
 
-called_struct : (v : Visible) (k : ℕ) (o : Option Shape) (c : Called) → slice_get v.shapes k ≡ o → struct_at k o ≡ Some c →
+pub called_struct : (v : Visible) (k : ℕ) (o : Option Shape) (c : Called) → slice_get v.shapes k ≡ o → struct_at k o ≡ Some c →
     (s : Shape) × (slice_get v.shapes k ≡ Some s) × (c.params ≡ field_types s.def.fields) × (c.result ≡ scalar (StructTy k))
 called_struct v k None c e h = absurd cc
 called_struct v k (Some s) c e h =

@@ -1,3 +1,9 @@
 pub mod Rules
 pub mod Places
 pub mod Expressions
+pub mod Known
+pub mod Coming
+pub mod Statements
+pub mod Tops
+pub mod Functions
+pub mod Initials

@@ -1,3 +1,4 @@
 pub mod Forming
 pub mod Scopes
 pub mod Laws
+pub mod Programs
