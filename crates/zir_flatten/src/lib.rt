@@ -1,0 +1,8 @@
+//! Makes the flat code of a whole program, once at opening, as it is defined.
+#![tactic(auto)]
+
+pub mod flow;
+mod layouts;
+mod leaves;
+pub mod places;
+mod types;
