@@ -4,5 +4,7 @@
 pub mod flow;
 mod layouts;
 mod leaves;
+mod loops;
+mod members;
 pub mod places;
 mod types;
