@@ -40,7 +40,7 @@ whole_of st g input begin made rest =
 -- one member more is made of a block which began with the cells from begin on free, whatever follows it
 abbrev pub FollowsIn : ℕ → Setting → Scope → Ty → Member → Row → Scope → Row → Type 0
 FollowsIn begin st g input m before behind made =
-    {k : _} (rest : Row_of-Member k) → whole_of st behind input begin made rest ≡ whole_of st g input begin before (more_of-Member m rest)
+    (k : _) (rest : Row_of-Member k) → whole_of st behind input begin made rest ≡ whole_of st g input begin before (more_of-Member m rest)
 
 -- the same wherever the block began
 abbrev pub Follows : Setting → Scope → Ty → Member → Row → Scope → Row → Type 0
@@ -71,7 +71,7 @@ all_of st g input d ms =
 
 -- no member is made yet
 abbrev pub Starts : ℕ → Row → Type 0
-Starts d made = {k : _} (st : Setting) (g : Scope) (input : Ty) (ms : Row_of-Member k) → whole_of st g input d made ms ≡ all_of st g input d ms
+Starts d made = (k : _) (st : Setting) (g : Scope) (input : Ty) (ms : Row_of-Member k) → whole_of st g input d made ms ≡ all_of st g input d ms
 
 -- what is made of a block is as the whole says
 pub record IsWhole (whole : Whole) (made : Flow) : Type 0 where

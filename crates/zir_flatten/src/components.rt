@@ -114,7 +114,8 @@ impl Places {
         alloc: Global,
         names: &mut Names,
         id: u32,
-        bounds: (&Expr, &Expr),
+        a: &Expr,
+        n: &Expr,
         c: &Comp,
         input: &Ty,
         d: u32,
@@ -122,9 +123,9 @@ impl Places {
     ) -> Result<Flow, Unmade>
         ensures same { Same names.old names.new }
         ensures code { (st : Setting) (x : Named) → x.id ≡ id → Sets self.now st →
-            IfOk result (Flowed st (scope_of names.old) input.now d (comp.For x bounds.0.now bounds.1.now c.now at)) }
+            IfOk result (Flowed st (scope_of names.old) input.now d (comp.For x a.now n.now c.now at)) }
     {
-        let range = range_of(alloc, names, bounds.0, bounds.1, d)?;
+        let range = range_of(alloc, names, a, n, d)?;
         let body = self.counted(alloc, names, id, range.index, c, input, range.free)?;
         indexed(alloc, d, range, at, body)
     }
@@ -274,7 +275,7 @@ impl Places {
             }
             Comp::Times(e, c, _) => self.times(alloc, names, e, c.get(), input, d),
             Comp::For(x, a, n, c, at) => {
-                self.counting(alloc, names, x.id, (a, n), c.get(), input, d, *at)
+                self.counting(alloc, names, x.id, a, n, c.get(), input, d, *at)
             }
             Comp::If(e, a, b, _) => self.choice(alloc, names, e, a.get(), b.get(), input, d),
             Comp::Map(_, k, _) => maps(alloc, names, *k, input, d),
