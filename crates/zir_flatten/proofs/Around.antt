@@ -16,7 +16,7 @@ use Rattle.zir_expr.specs.declared.steps.Step.{Step}
 use Rattle.zir_shapes.specs.Offsets.{plain_type as plain}
 use Rattle.zir_code.specs.Scopes.{Scope}
 use Rattle.zir_code.specs.Types.{type_or_unit, cells_for}
-use Rattle.zir_code.specs.Coding.{stands, code_of}
+use Rattle.zir_code.specs.Coding.{stands, code_of, settling}
 use Rattle.zir_code.specs.Peaks.{peak_of}
 use Rattle.zir_code.specs.Statements.{with_index}
 use Rattle.zir_compile.specs.declared.made.Placed.{Placed}
@@ -81,7 +81,7 @@ flowed-Times st g input d e c p steps most body made t f code value output peak 
     record {
       code =
           code ∙ ap (λ (ss : List Step). Run ss ∷ Turn d (length body.code.items + 2) ∷ Tick ∷ (body.code.items ++ Again (length body.code.items + 2) ∷ [])) t.code
-          ∙ ap (λ (xs : List Instruction). Run _ ∷ Turn d (length xs + 2) ∷ Tick ∷ (xs ++ Again (length xs + 2) ∷ [])) f.code;
+          ∙ ap (λ (xs : List Instruction). Run (code_of g e d ++ settling (stands g e d) d 1) ∷ Turn d (length xs + 2) ∷ Tick ∷ (xs ++ Again (length xs + 2) ∷ [])) f.code;
       value = value;
       output = output ∙ f.output;
       peak = q;
@@ -104,7 +104,7 @@ flowed-For st g input d x a n c p range body made r f code value output peak dep
       code =
           code
           ∙ ap (λ (ss : List Step). Run ss ∷ Turn (d + 1) (length body.code.items + 3) ∷ Tick ∷ Run (index_code d p) ∷ (body.code.items ++ Again (length body.code.items + 3) ∷ [])) r.code
-          ∙ ap (λ (xs : List Instruction). Run _ ∷ Turn (d + 1) (length xs + 3) ∷ Tick ∷ Run (index_code d p) ∷ (xs ++ Again (length xs + 3) ∷ [])) f.code;
+          ∙ ap (λ (xs : List Instruction). Run (code_of g a d ++ (settling (stands g a d) d 1 ++ (code_of g n (d + 1) ++ settling (stands g n (d + 1)) (d + 1) 1))) ∷ Turn (d + 1) (length xs + 3) ∷ Tick ∷ Run (index_code d p) ∷ (xs ++ Again (length xs + 3) ∷ [])) f.code;
       value = value;
       output = output ∙ f.output;
       peak = q;

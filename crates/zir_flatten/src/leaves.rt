@@ -300,16 +300,16 @@ pub fn filters(alloc: Global, names: &Names, k: u32, input: &Ty, d: u32) -> Resu
     })
 }
 
-/// Behind the code of arguments, a call of an instance that is not there.
-fn absent(alloc: Global, steps: Vec<Step>, peak: u32) -> Result<Flow, Unmade>
-    ensures { (st : Setting) (g : Scope) (input : Ty) (d : ℕ) (f : Named) (k : ℕ) (es : List OneExpr) → st.entries k ≡ None →
+/// Behind the code of arguments, which stand from the cell d on, a call of an instance that is not there.
+fn absent(alloc: Global, d: u32, steps: Vec<Step>, peak: u32) -> Result<Flow, Unmade>
+    ensures { (st : Setting) (g : Scope) (input : Ty) (f : Named) (k : ℕ) (es : List OneExpr) → st.entries k ≡ None →
         making.Readied g es d steps.items peak → IfOk result (making.Flowed st g input d (comp.Call f k es)) }
 {
     Ok(Flow {
         code: vec![in alloc; run(steps), Instruction::Tick]?,
         value: None,
         output: None,
-        peak,
+        peak: peak.max(d),
         depth: 0,
         layout: Layout::Flat,
     })
@@ -359,7 +359,7 @@ pub fn calls(
     let mut steps = Vec::new(alloc);
     let row = names.arguments(alloc, es, d, &mut steps)?;
     match places.callees.get(k as usize) {
-        None => absent(alloc, steps, row.peak),
+        None => absent(alloc, d, steps, row.peak),
         Some(callee) => enter(alloc, names, callee, d, steps, row.peak),
     }
 }
