@@ -1,6 +1,8 @@
 -- Members one behind the other.
-use Rattle.std.specs.Prelude.{ℕ, ◌+◌, ◌<◌, max, List, [], ◌∷◌, ◌++◌, length, drop, Option, Some, None, ◌≡◌, refl}
-use Rattle.std.proofs.Common.{ap, sym, ◌∙◌, subst, append_assoc, arith}
+use Rattle.std.specs.Prelude.{ℕ, ◌+◌, ◌<◌, ◌≤◌, max, List, [], ◌∷◌, ◌++◌, length, drop, Option, Some, None, Result, Ok, Err, IfOk, ◌≡◌, refl}
+use Rattle.std.proofs.Common.{ap, sym, ◌∙◌, subst, append_assoc, arith, get_or}
+use Rattle.std.proofs.lemmas.List.{drop_all}
+use Rattle.zir_compile.proofs.Finding.{at_place}
 use Rattle.zir_tree.specs.declared.ident.Ident.{Ident}
 use Rattle.zir_tree.specs.declared.types.Base.TheVariants.{Unit as UnitTy}
 use Rattle.zir_tree.specs.declared.types.Ty.{Ty}
@@ -42,17 +44,9 @@ widest_assoc (Split a1 a2) (Split b1 b2) Flat = refl
 widest_assoc (Split a1 a2) (Split b1 b2) (Split c1 c2) =
     ap (λ x. Split x (widest (widest a2 b2) c2)) (widest_assoc a1 b1 c1) ∙ ap (Split (widest a1 (widest b1 c1))) (widest_assoc a2 b2 c2)
 
-widest_flat : (a : Shape) → a ≡ widest a Flat
-widest_flat Flat = refl
-widest_flat (Split a b) = refl
-
 first_assoc : {A : Type 0} (a b c : Option A) → first_of (first_of a b) c ≡ first_of a (first_of b c)
 first_assoc None b c = refl
 first_assoc (Some x) b c = refl
-
-first_none : {A : Type 0} (a : Option A) → a ≡ first_of a None
-first_none None = refl
-first_none (Some x) = refl
 
 -- the whole by what is made so far
 abbrev whole_by : {k : _} → Setting → Ty → ℕ → Row_of-Member k → Scope → List Instruction → ℕ → ℕ → Option Ty → Option Ty → ℕ → ℕ → Shape → Whole
@@ -128,70 +122,6 @@ follows-Run st g input c before made flow end begin f j n k rest =
       shape = widest_assoc (shape_by before.layout) (shape_of st c) (members_shape st rest) i;
     })
 
-initial_end : (g : Scope) (d n : ℕ) (e : Option Expr) → max (d + n) (initial_most g d e) ≡ initial_peak g d n e
-initial_end g d n None = let q : max (d + n) d ≡ d + n = omega arith in q
-initial_end g d n (Some e) = refl
-
--- a variable
-pub follows-Var : (st : Setting) (g behind : Scope) (input : Ty) (v : VarDecl) (before made : Row) (begin n free most : ℕ) (steps : List Step) → n ≡ cells_for g (type_of v.ty) →
-    free ≡ before.free + cells_for g (type_of v.ty) → behind ≡ with_local g before.free v.name.id (type_of v.ty) → steps ≡ initial_code g before.free n v.initial →
-    most ≡ initial_most g before.free v.initial → made.code.items ≡ before.code.items ++ Run steps ∷ [] → made.free ≡ free → made.at ≡ begin → made.value ≡ Some (plain UnitTy) →
-    made.output ≡ before.output → made.peak ≡ max before.peak (max free most) → made.depth ≡ before.depth → made.layout ≡ before.layout →
-    FollowsIn begin st g input (Var v) before behind made
-follows-Var st g behind input v before made begin n free most steps en ef scope es em code end at value output peak depth layout k rest =
-    let d : ℕ = before.free in
-    let u : Ty = type_of v.ty in
-    let ss : List Step = initial_code g d (cells_for g u) v.initial in
-    let coded : made.code.items ≡ before.code.items ++ Run ss ∷ [] =
-      code ∙ ap (λ (xs : List Step). before.code.items ++ Run xs ∷ []) (es ∙ ap (λ m. initial_code g d m v.initial) en) in
-    let high : made.peak ≡ max before.peak (initial_peak g d (cells_for g u) v.initial) =
-      peak ∙ (λ i. max before.peak (max (ef i) (em i))) ∙ ap (max before.peak) (initial_end g d (cells_for g u) v.initial) in
-    let step : whole_of st behind input begin made rest
-      ≡ whole_by st input begin rest (with_local g d v.name.id u) (before.code.items ++ Run ss ∷ []) (d + cells_for g u) begin (Some (plain UnitTy)) before.output
-      (max before.peak (initial_peak g d (cells_for g u) v.initial)) before.depth (shape_by before.layout) =
-      λ i. whole_by st input begin rest (scope i) (coded i) ((end ∙ ef) i) (at i) (value i) (output i) (high i) (depth i) (shape_by (layout i)) in
-    let last : max (max before.peak (initial_peak g d (cells_for g u) v.initial)) (members_peak st (with_local g d v.name.id u) input (d + cells_for g u) rest)
-      ≡ max before.peak (max (initial_peak g d (cells_for g u) v.initial) (members_peak st (with_local g d v.name.id u) input (d + cells_for g u) rest)) = omega arith in
-    step ∙ (λ i. record {
-      code =
-          append_assoc before.code.items (Run ss ∷ []) (members_code st (with_local g d v.name.id u) input begin (d + cells_for g u) begin (plain UnitTy) rest) i;
-      value = members_value st (with_local g d v.name.id u) input (d + cells_for g u) (Some (plain UnitTy)) rest;
-      output = first_of before.output (members_output st (with_local g d v.name.id u) input (d + cells_for g u) rest);
-      peak = last i;
-      depth = max before.depth (members_depth st rest);
-      shape = widest (shape_by before.layout) (members_shape st rest);
-    })
-
--- the end of a block
-pub ends_whole : (st : Setting) (g : Scope) (input : Ty) (begin cells : ℕ) (row : Row) (steps : List Step) (made : Flow) → cells ≡ cells_for g (type_or_unit row.value) →
-    steps ≡ settling (Local row.at) begin cells → made.code.items ≡ row.code.items ++ run_some steps → made.value ≡ row.value → made.output ≡ row.output →
-    made.peak ≡ max row.peak row.free → made.depth ≡ row.depth → made.layout ≡ row.layout → IsWhole (whole_of st g input begin row end_of-Member) made
-ends_whole st g input begin cells row steps made n s code value output peak depth layout = record {
-  code = code ∙ ap (λ (xs : List Step). row.code.items ++ run_some xs) (s ∙ ap (settling (Local row.at) begin) n);
-  value = value;
-  output = output ∙ first_none row.output;
-  peak = peak;
-  depth = let q : made.depth ≡ max row.depth 0 = omega arith in q;
-  shape = ap shape_by layout ∙ widest_flat (shape_by row.layout);
-}
-
--- no member yet
-pub starts_whole : {k : _} (st : Setting) (g : Scope) (input : Ty) (d : ℕ) (made : Row) (ms : Row_of-Member k) → made.code.items ≡ [] → made.free ≡ d → made.at ≡ d →
-    made.value ≡ Some (plain UnitTy) → made.output ≡ None → made.peak ≡ 0 → made.depth ≡ 0 → shape_by made.layout ≡ Flat → whole_of st g input d made ms ≡ all_of st g input d ms
-starts_whole st g input d made ms code free at value output peak depth shape =
-    let most : max 0 (members_peak st g input d ms) ≡ members_peak st g input d ms = omega arith in
-    let deep : max 0 (members_depth st ms) ≡ members_depth st ms = omega arith in
-    let step : whole_of st g input d made ms ≡ whole_by st input d ms g [] d d (Some (plain UnitTy)) None 0 0 Flat =
-      λ i. whole_by st input d ms g (code i) (free i) (at i) (value i) (output i) (peak i) (depth i) (shape i) in
-    step ∙ (λ i. record {
-      code = members_code st g input d d d (plain UnitTy) ms;
-      value = members_value st g input d (Some (plain UnitTy)) ms;
-      output = members_output st g input d ms;
-      peak = most i;
-      depth = deep i;
-      shape = members_shape st ms;
-    })
-
 -- members as a row, of which one more is made
 pub row_next : (st : Setting) (behind g : Scope) (input : Ty) (begin : ℕ) (m : Member) (ms : List Member) (before made : Row) → FollowsIn begin st g input m before behind made →
     whole_of st behind input begin made (hidden-the_row-Member-1 ms) ≡ whole_of st g input begin before (hidden-the_row-Member-1 (m ∷ ms))
@@ -213,3 +143,23 @@ block_whole st g input d ms p made w = record {
   depth = w.depth;
   shape = w.shape;
 }
+
+-- what is so in each case where there is something
+pub if_ok_as : {A E : Type 0} (P Q : A → Type 0) (r : Result A E) → ((x : A) → P x → Q x) → IfOk r P → IfOk r Q
+if_ok_as P Q (Ok x) f h = f x h
+if_ok_as P Q (Err e) f h = tt
+
+-- one member more of the list
+pub row_on : (st : Setting) (behind g : Scope) (input : Ty) (begin : ℕ) (ms : List Member) (i : ℕ) (m : Member) (before made : Row) (whole : Whole) → i < length ms → m ≡ get_or ms i m →
+    FollowsIn begin st g input m before behind made → whole_of st g input begin before (hidden-the_row-Member-1 (drop i ms)) ≡ whole →
+    whole_of st behind input begin made (hidden-the_row-Member-1 (drop (i + 1) ms)) ≡ whole
+row_on st behind g input begin ms i m before made whole lt is f h =
+    row_next st behind g input begin m (drop (i + 1) ms) before made f ∙ ap (λ xs. whole_of st g input begin before (hidden-the_row-Member-1 xs)) (sym (at_place ms i m lt is)) ∙ h
+
+-- all members of the list
+pub row_done : (st : Setting) (g g0 : Scope) (input : Ty) (d : ℕ) (ms : List Member) (i : ℕ) (row : Row) (p : Place) (made : Flow) → length ms ≤ i →
+    whole_of st g input d row (hidden-the_row-Member-1 (drop i ms)) ≡ all_of st g0 input d (hidden-the_row-Member-1 ms) → IsWhole (whole_of st g input d row end_of-Member) made →
+    Flowed st g0 input d (Block ms p) made
+row_done st g g0 input d ms i row p made le h w =
+    block_whole st g0 input d ms p made
+    (subst (λ x. IsWhole x made) (row_end st g input d row ∙ ap (λ xs. whole_of st g input d row (hidden-the_row-Member-1 xs)) (sym (drop_all i ms le)) ∙ h) w)

@@ -1,5 +1,6 @@
 -- What the instances that may be called are to the definitions of code.
 use Rattle.std.specs.Prelude.{ℕ, List, Option, Some, None, ◌≡◌, slice_get}
+use Rattle.zir_assigned.specs.Assigned.{Agrees}
 use Rattle.zir_flow.specs.Kinds.{Entry, Setting}
 use Rattle.zir_stage.specs.Layouts.{shape_by}
 use Rattle.zir_flatten.specs.declared.places.Callee.{Callee}
@@ -21,6 +22,7 @@ HasEntry None (Some e) = ⊥
 HasEntry (Some made) None = ⊥
 HasEntry (Some made) (Some e) = IsEntry made e
 
--- these are the instances that may be called in a setting
+-- these are the instances that may be called in a setting, and what functions and instances assign there
 pub record Sets (places : Places) (st : Setting) : Type 0 where
   pub entries : (k : ℕ) → HasEntry (slice_get places.callees.items k) (st.entries k)
+  pub assigned : Agrees places.assigned st.assigned

@@ -2,6 +2,8 @@
 
 ghost use Rattle.std.specs.Prelude.{◌≡◌, ◌+◌, ℕ, Some, IfOk};
 ghost use Rattle.zir_tree.specs.declared.comp.Comp as comp;
+ghost use Rattle.zir_tree.specs.declared.comp.Comp.{Comp as OneComp};
+ghost use Rattle.zir_tree.specs.declared.types.Ty.{Ty as OneTy};
 ghost use Rattle.zir_tree.specs.declared.comp.Link.{Link as Joining};
 ghost use Rattle.zir_tree.specs.declared.ident.Ident.{Ident as Named};
 ghost use Rattle.zir_tree.specs.declared.place.Place.{Place as At};
@@ -24,11 +26,13 @@ use crate::members::{Row, bound, declared, ended, followed, no_member};
 use crate::pipes::piped;
 use crate::places::Places;
 use crate::types::{copy_or_unit, plain};
+use sqlite_items::Items;
 use std::alloc::Global;
 use zir_code::scope::Holder;
 use zir_compile::numbers::{Unmade, sum};
 use zir_compile::scope::Names;
 use zir_expr::frame::Spot;
+use zir_flow::instruction::Back;
 use zir_tree::comp::{Comp, Member, Turning};
 use zir_tree::expr::Expr;
 use zir_tree::place::Place;
@@ -41,9 +45,9 @@ impl Places {
         &self,
         alloc: Global,
         names: &mut Names,
+        c: &Comp,
         id: u32,
         index: u32,
-        c: &Comp,
         input: &Ty,
         d: u32,
     ) -> Result<Flow, Unmade>
@@ -69,9 +73,9 @@ impl Places {
         &self,
         alloc: Global,
         names: &mut Names,
+        c: &Comp,
         turning: Turning,
         e: &Expr,
-        c: &Comp,
         input: &Ty,
         d: u32,
     ) -> Result<Flow, Unmade>
@@ -91,8 +95,8 @@ impl Places {
         &self,
         alloc: Global,
         names: &mut Names,
-        e: &Expr,
         c: &Comp,
+        e: &Expr,
         input: &Ty,
         d: u32,
     ) -> Result<Flow, Unmade>
@@ -113,10 +117,10 @@ impl Places {
         &self,
         alloc: Global,
         names: &mut Names,
+        c: &Comp,
         id: u32,
         a: &Expr,
         n: &Expr,
-        c: &Comp,
         input: &Ty,
         d: u32,
         at: Place,
@@ -126,52 +130,51 @@ impl Places {
             IfOk result (Flowed st (scope_of names.old) input.now d (comp.For x a.now n.now c.now at)) }
     {
         let range = range_of(alloc, names, a, n, d)?;
-        let body = self.counted(alloc, names, id, range.index, c, input, range.free)?;
+        let body = self.counted(alloc, names, c, id, range.index, input, range.free)?;
         indexed(alloc, d, range, at, body)
     }
 
-    /// `if`.
+    /// `if` behind the code of its first way.
     #[cycle(flowing)]
     fn choice(
         &self,
         alloc: Global,
         names: &mut Names,
-        e: &Expr,
-        a: &Comp,
         b: &Comp,
+        e: &Expr,
+        first: Flow,
         input: &Ty,
         d: u32,
     ) -> Result<Flow, Unmade>
         ensures same { Same names.old names.new }
-        ensures code { (st : Setting) (p : At) → Sets self.now st →
-            IfOk result (Flowed st (scope_of names.old) input.now d (comp.If e.now a.now b.now p)) }
+        ensures code { (st : Setting) (a : OneComp) (p : At) → Sets self.now st → let g = scope_of names.old in
+            Flowed st g input.now d a first → IfOk result (Flowed st g input.now d (comp.If e.now a b.now p)) }
     {
         let mut steps = Vec::new(alloc);
         let test = names.expression(alloc, e, d, &mut steps)?;
-        let first = self.component(alloc, names, a, input, d)?;
         let second = self.component(alloc, names, b, input, d)?;
         chosen(alloc, steps, test, first, second)
     }
 
-    /// A composition.
+    /// A composition behind the code of its left side, which brings back these cells.
     #[cycle(flowing)]
     fn pipe(
         &self,
         alloc: Global,
         names: &mut Names,
-        a: &Comp,
         b: &Comp,
-        input: &Ty,
+        back: Items<Back>,
+        left: Flow,
         d: u32,
     ) -> Result<Flow, Unmade>
         ensures same { Same names.old names.new }
-        ensures code { (st : Setting) (link : Joining) (p : At) → Sets self.now st →
-            IfOk result (Flowed st (scope_of names.old) input.now d (comp.Pipe link a.now b.now p)) }
+        ensures code { (st : Setting) (input : OneTy) (link : Joining) (a : OneComp) (p : At) → Sets self.now st →
+            let g = scope_of names.old in
+            back ≡ flowing.back_of (assigns st.assigned a) g → Flowed st g input d a left →
+            IfOk result (Flowed st g input d (comp.Pipe link a b.now p)) }
     {
-        let left = self.component(alloc, names, a, input, d)?;
         let between = copy_or_unit(alloc, &left.output)?;
         let right = self.component(alloc, names, b, &between, d)?;
-        let back = self.back_of(alloc, names, a)?;
         piped(alloc, names, d, back, left, right)
     }
 
@@ -271,18 +274,25 @@ impl Places {
                 repeated(alloc, body)
             }
             Comp::While(turning, e, c, _) => {
-                self.looped(alloc, names, *turning, e, c.get(), input, d)
+                self.looped(alloc, names, c.get(), *turning, e, input, d)
             }
-            Comp::Times(e, c, _) => self.times(alloc, names, e, c.get(), input, d),
+            Comp::Times(e, c, _) => self.times(alloc, names, c.get(), e, input, d),
             Comp::For(x, a, n, c, at) => {
-                self.counting(alloc, names, x.id, a, n, c.get(), input, d, *at)
+                self.counting(alloc, names, c.get(), x.id, a, n, input, d, *at)
             }
-            Comp::If(e, a, b, _) => self.choice(alloc, names, e, a.get(), b.get(), input, d),
+            Comp::If(e, a, b, _) => {
+                let first = self.component(alloc, names, a.get(), input, d)?;
+                self.choice(alloc, names, b.get(), e, first, input, d)
+            }
             Comp::Map(_, k, _) => maps(alloc, names, *k, input, d),
             Comp::Filter(_, k, _) => filters(alloc, names, *k, input, d),
             Comp::Call(_, k, es) => calls(alloc, names, self, *k, es.as_slice(), d),
             Comp::Block(ms, _) => self.block(alloc, names, ms.as_slice(), input, d),
-            Comp::Pipe(_, a, b, _) => self.pipe(alloc, names, a.get(), b.get(), input, d),
+            Comp::Pipe(_, a, b, _) => {
+                let back = self.back_of(alloc, names, a.get())?;
+                let left = self.component(alloc, names, a.get(), input, d)?;
+                self.pipe(alloc, names, b.get(), back, left, d)
+            }
         }
     }
 }

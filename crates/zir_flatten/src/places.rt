@@ -1,5 +1,6 @@
 // The instances that may be called.
 
+use zir_assigned::assigned::Assigned;
 use zir_stage::layout::Layout;
 use zir_tree::types::Ty;
 
@@ -15,8 +16,9 @@ pub struct Callee {
     pub layout: Layout,
 }
 
-/// The instances that may be called, in their order.
+/// The instances that may be called, in their order, and what functions and instances assign.
 #[derive(Drop)]
 pub struct Places {
     pub callees: Vec<Callee>,
+    pub assigned: Assigned,
 }
