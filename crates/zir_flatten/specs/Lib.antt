@@ -1,0 +1,4 @@
+pub mod Making
+pub mod Callable
+pub mod Counted
+pub mod Members

@@ -1,0 +1,13 @@
+//! Makes the flat code of a whole program, once at opening, as it is defined.
+#![tactic(auto)]
+
+mod backs;
+pub mod components;
+pub mod flow;
+mod layouts;
+mod leaves;
+mod loops;
+mod members;
+mod pipes;
+pub mod places;
+mod types;
