@@ -88,7 +88,7 @@ fn is_index(access: &Access) -> bool
 impl Names {
     /// Adds the code of an initial value, which goes to the n cells from d on, and answers the first cell behind all
     /// that it uses besides.
-    pub(crate) fn initial(
+    pub fn initial(
         &self,
         alloc: Global,
         e: &Option<Expr>,

@@ -331,7 +331,7 @@ impl Names {
 
     /// Adds the code of arguments, elements or fields, each of which goes to cells behind those before it.
     #[cycle(coding)]
-    pub(crate) fn arguments(
+    pub fn arguments(
         &self,
         alloc: Global,
         es: &[Expr],
@@ -375,7 +375,7 @@ impl Names {
     }
 
     /// Adds the call of the function at this place, whose arguments stand from the cell d on.
-    pub(crate) fn call(
+    pub fn call(
         &self,
         alloc: Global,
         k: u32,
@@ -459,7 +459,7 @@ impl Names {
 
     /// Adds the code of an expression, whose cells from d on are free.
     #[cycle(coding)]
-    pub(crate) fn expression(
+    pub fn expression(
         &self,
         alloc: Global,
         e: &Expr,

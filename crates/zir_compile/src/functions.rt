@@ -28,7 +28,7 @@ use zir_tree::stmt::{Body, Return};
 use zir_tree::types::{Base, Field, StructDef, Ty, TypeExpr};
 
 /// The variables of parameters, one behind the other from the first cell on.
-fn parameters(alloc: Global, structs: &Structs, params: &[Field]) -> Result<Parameters, Unmade>
+pub fn parameters(alloc: Global, structs: &Structs, params: &[Field]) -> Result<Parameters, Unmade>
     ensures { (g : Scope) → g.structs ≡ structs.now →
         Makes (bodies.cells_of_all g params.now < 2 ^ 32) (signing.AreParameters g params.now) result }
 {
@@ -49,7 +49,7 @@ fn parameters(alloc: Global, structs: &Structs, params: &[Field]) -> Result<Para
 }
 
 /// The types of parameters.
-fn types_of(alloc: Global, params: &[Field]) -> Result<Items<Ty>, AllocError>
+pub fn types_of(alloc: Global, params: &[Field]) -> Result<Items<Ty>, AllocError>
     ensures { IfOk result (λ made. made ≡ signing.types_of params.now) }
 {
     let mut made = Items::new(alloc);

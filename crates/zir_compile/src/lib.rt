@@ -7,7 +7,7 @@ pub mod expressions;
 pub mod extent;
 pub mod functions;
 pub mod made;
-mod moves;
+pub mod moves;
 pub mod numbers;
 mod operations;
 mod operators;

@@ -367,7 +367,7 @@ impl Names {
 
     /// Adds the code of statements one after the other. What they declare comes into scope.
     #[cycle(stating)]
-    pub(crate) fn row(
+    pub fn row(
         &mut self,
         alloc: Global,
         statements: &[Stmt],
