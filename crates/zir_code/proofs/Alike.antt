@@ -12,28 +12,34 @@ use Rattle.zir_expr.specs.Memory.{Ran, Done, then_run, place_of}
 use Rattle.zir_expr.specs.Memory.Frames.{Memory}
 use Rattle.zir_code.specs.declared.scope.Holder.{Holder}
 use Rattle.zir_code.specs.Scopes.{Scope}
-use Rattle.zir_code.specs.Holding.{Holds, Kept, StandsAt, Agrees}
+use Rattle.zir_code.specs.Holding.{Holds, Kept, Spares, StandsAt, Agrees}
 use Rattle.zir_code.specs.Statements.{scope_after, free_after, scope_after_row}
-use Rattle.zir_code.specs.Fine.{Went, Stopped, AgreesStmt}
+use Rattle.zir_code.specs.Fine.{Stopped}
 use Rattle.zir_code.specs.Calls.{Calls}
+use Rattle.zir_code.proofs.Sparing.{WentSparing as Went, AgreesSparing as AgreesStmt, Narrows, spares_both, spares_other}
 use Rattle.zir_code.proofs.Kept.{kept_holds}
 use Rattle.zir_code.proofs.Agreeing.{ends_then, ends_less}
 
--- two memories whose cells between the top variables and those of the body are the same
-pub record Alike (top base : ℕ) (m m' : Memory) : Type 0 where
+-- two memories whose cells between the top variables and those of the body are the same, and those of no variable in scope
+pub record Alike (top base d : ℕ) (g : Scope) (m m' : Memory) : Type 0 where
   pub same : (i : ℕ) → top ≤ i → i < base → slice_index_or m'.cells i (pos 0) ≡ slice_index_or m.cells i (pos 0)
+  pub spare : Spares top base d g m m'
   pub size : length m'.cells ≡ length m.cells
 
-pub alike_went : (top base d n : ℕ) (g : Scope) (m m' : Memory) (s' : State) → Went top base d n g m m' s' → Alike top base m m'
-alike_went top base d n g m m' s' w = record { same = w.same; size = w.size }
+pub alike_went : (top base d d' n : ℕ) (g g' : Scope) (m m' : Memory) (s' : State) → Narrows base d d' g g' → Went top base d n g m m' s' →
+    Alike top base d' g' m m'
+alike_went top base d d' n g g' m m' s' z w =
+    record { same = w.same; spare = spares_other top base d d' g g' m m' z w.spare; size = w.size }
 
-pub alike_kept : (top base d : ℕ) (g : Scope) (m m' : Memory) (s s' : State) → Kept top base d g m m' s s' → Alike top base m m'
-alike_kept top base d g m m' s s' k = record { same = λ i a b. k.same i a (omega arith); size = k.size }
+pub alike_kept : (top base d d' : ℕ) (g g' : Scope) (m m' : Memory) (s s' : State) → Narrows base d d' g g' → Kept top base d g m m' s s' →
+    Alike top base d' g' m m'
+alike_kept top base d d' g g' m m' s s' z k =
+    record { same = λ i a b. k.same i a (omega arith); spare = λ i a b o. k.same i a (z i b o).0; size = k.size }
 
 -- a trap after memory was changed
-pub stopped_from : (top base : ℕ) (structs : List StructDef) (tops : List Holder) (m m1 m' : Memory) (s' : State) → Alike top base m m1 →
-    Stopped top base structs tops m1 m' s' → Stopped top base structs tops m m' s'
-stopped_from top base structs tops m m1 m' s' a w =
+pub stopped_from : (top base d : ℕ) (g : Scope) (structs : List StructDef) (tops : List Holder) (m m1 m' : Memory) (s' : State) →
+    Alike top base d g m m1 → Stopped top base structs tops m1 m' s' → Stopped top base structs tops m m' s'
+stopped_from top base d g structs tops m m1 m' s' a w =
     record { tops_held = w.tops_held; same = λ i b c. w.same i b c ∙ a.same i b c; size = w.size ∙ a.size; used = w.used; limit = w.limit }
 
 -- a trap in an expression
@@ -49,13 +55,18 @@ stopped_kept top base d g m m' s s' k = record {
 }
 
 -- the same from an earlier memory
-pub from_alike : (top base d n : ℕ) (g : Scope) (m m1 : Memory) (r : Eval) (q : Ran) → Alike top base m m1 → AgreesStmt top base d n g m1 r q →
+pub from_alike : (top base d n : ℕ) (g : Scope) (m m1 : Memory) (r : Eval) (q : Ran) → Alike top base d g m m1 → AgreesStmt top base d n g m1 r q →
     AgreesStmt top base d n g m r q
 from_alike top base d n g m m1 r q a w =
     ends_less (λ v s' m'. Went top base d n g m1 m' s') (λ s' m'. Stopped top base g.structs g.tops m1 m' s') (λ v s' m'. Went top base d n g m m' s')
     (λ s' m'. Stopped top base g.structs g.tops m m' s') r q
-    (λ v s' m' x. record { holds = x.holds; same = λ i b c. x.same i b c ∙ a.same i b c; size = x.size ∙ a.size })
-    (λ s' m' x. stopped_from top base g.structs g.tops m m1 m' s' a x) w
+    (λ v s' m' x. record {
+      holds = x.holds;
+      same = λ i b c. x.same i b c ∙ a.same i b c;
+      spare = spares_both top base d g m m1 m' a.spare x.spare;
+      size = x.size ∙ a.size;
+    })
+    (λ s' m' x. stopped_from top base d g g.structs g.tops m m1 m' s' a x) w
 
 -- a scope has the structs and the top variables of another
 pub record SameTops (g g' : Scope) : Type 0 where
@@ -82,23 +93,23 @@ from_expression top base d d' n g g' t spot m s r q next next' z a k =
 
 -- what follows an expression, from where it ends
 pub after_expression : (top base d d' n : ℕ) (g g' : Scope) (t : Ty) (spot : Spot) (m : Memory) (s : State) (r : Eval) (q : Ran)
-    (next : Val → State → Eval) (next' : Memory → Ran) → SameTops g g' → Agrees top base d g t spot m s r q →
+    (next : Val → State → Eval) (next' : Memory → Ran) → SameTops g g' → Narrows base d d' g g' → Agrees top base d g t spot m s r q →
     ((v : Val) (s' : State) (m' : Memory) → StandsAt g.structs t v m' (place_of base spot) → Kept top base d g m m' s s' →
     AgreesStmt top base d' n g' m' (next v s') (next' m')) → AgreesStmt top base d' n g' m (then_eval r next) (then_run q next')
-after_expression top base d d' n g g' t spot m s r q next next' z a k =
+after_expression top base d d' n g g' t spot m s r q next next' z narrow a k =
     from_expression top base d d' n g g' t spot m s r q next next' z a
-    (λ v s' m' st kept. from_alike top base d' n g' m m' _ _ (alike_kept top base d g m m' s s' kept) (k v s' m' st kept))
+    (λ v s' m' st kept. from_alike top base d' n g' m m' _ _ (alike_kept top base d d' g g' m m' s s' narrow kept) (k v s' m' st kept))
 
 -- what follows statements
 pub after_statements : (top base d d' n : ℕ) (g g' : Scope) (m : Memory) (r : Eval) (q : Ran) (next : Val → State → Eval) (next' : Memory → Ran) →
-    SameTops g g' → AgreesStmt top base d n g m r q →
+    SameTops g g' → Narrows base d d' g g' → AgreesStmt top base d n g m r q →
     ((v : Val) (s' : State) (m' : Memory) → Went top base d n g m m' s' → AgreesStmt top base d' n g' m' (next v s') (next' m')) →
     AgreesStmt top base d' n g' m (then_eval r next) (then_run q next')
-after_statements top base d d' n g g' m r q next next' z a k =
+after_statements top base d d' n g g' m r q next next' z narrow a k =
     ends_then (λ v s' m'. Went top base d n g m m' s') (λ s' m'. Stopped top base g.structs g.tops m m' s')
     (λ v s' m'. Went top base d' n g' m m' s') (λ s' m'. Stopped top base g'.structs g'.tops m m' s') r q next next'
     (λ s' m' x. stopped_in top base g g' m m' s' z x) a
-    (λ v s' m' x. from_alike top base d' n g' m m' _ _ (alike_went top base d n g m m' s' x) (k v s' m' x))
+    (λ v s' m' x. from_alike top base d' n g' m m' _ _ (alike_went top base d d' n g g' m m' s' narrow x) (k v s' m' x))
 
 -- what an expression leaves is what a statement may leave
 pub kept_stated : (top base d n : ℕ) (g : Scope) (t : Ty) (spot : Spot) (m : Memory) (s : State) (r : Eval) (q : Ran) → Holds top base d n g m s →
@@ -109,14 +120,14 @@ kept_stated top base d n g t spot m s r q h a =
     (λ v s' m' x. record {
       holds = kept_holds top base d d n g m m' s s' (omega arith) h x.1;
       same = λ i b c. x.1.same i b (omega arith);
-      size =
-          x.1.size;
+      spare = λ i b c o. x.1.same i b c;
+      size = x.1.size;
     })
     (λ s' m' x. stopped_kept top base d g m m' s s' x) a
 
 -- nothing is done
 pub idle : (top base d n : ℕ) (g : Scope) (m : Memory) (s : State) → Holds top base d n g m s → AgreesStmt top base d n g m (Got UnitVal s) (Done m)
-idle top base d n g m s h = record { holds = h; same = λ i a b. refl; size = refl }
+idle top base d n g m s h = record { holds = h; same = λ i a b. refl; spare = λ i a b o. refl; size = refl }
 
 -- a statement adds names behind those in scope
 pub record Adds (g g' : Scope) : Type 0 where

@@ -33,9 +33,10 @@ use Rattle.zir_code.specs.Coding.{stands, code_of}
 use Rattle.zir_code.specs.Typing.{IsWholeType, PartFits}
 use Rattle.zir_code.specs.Holding.{At, Holds, Kept}
 use Rattle.zir_code.specs.Statements.{along_code, along_shift}
-use Rattle.zir_code.specs.Fine.{Fits, AlongFits, AgreesStmt}
+use Rattle.zir_code.specs.Fine.{Fits, AlongFits}
 use Rattle.zir_code.specs.Calls.{Calls}
 use Rattle.zir_code.specs.Laws.{ExpressionsAgree}
+use Rattle.zir_code.proofs.Sparing.{AgreesSparing as AgreesStmt, fewer}
 use Rattle.zir_code.proofs.Kept.{low_place, kept_holds, kept_kept, kept_less, holds_kept, holds_more, changed_cell, cell_written, kept_changed}
 use Rattle.zir_code.proofs.Agreeing.{go_all-append, then-then}
 use Rattle.zir_code.proofs.Alike.{after_expression, from_alike, alike_kept, same_tops}
@@ -101,7 +102,7 @@ by_test top base o d n code room size g p k (pos i) m s look next next' h le fit
           (then_run (put_or_trap (offset_of (pos k) (pos i) e) (from_base base o) p m) next')) (sym f.1)
           (subst (λ r. AgreesStmt top base d n g m (next f.0 s) (then_run (put_or_trap r (from_base base o) p m) next'))
           (sym (offset_inside k i e lt f.2))
-          (from_alike top base d n g m m' _ _ (alike_kept top base o g m m' s s kept)
+          (from_alike top base d n g m m' _ _ (alike_kept top base o d g g m m' s s (fewer base o d g le) kept)
           (f.3 m' kept (cell_written (from_base base o) x m (omega arith))))))
       | inr ge ↦ subst (λ r. AgreesStmt top base d n g m (found code p r s next)
           (then_run (put_or_trap (offset_of (pos k) (pos i) e) (from_base base o) p m) next')) (sym (outside i ge))
@@ -137,6 +138,7 @@ index_agrees top base o d n code room size l g b e p k m s look next rest next' 
     (sym (ap (λ r. then_run r next') (go_all-append (code_of g e (o + 1)) last base m)
     ∙ then-then (go_all (code_of g e (o + 1)) base m) (go_all last base) next'))
     (after_expression top base (o + 1) d n g g (plain_type b) x m s (ev l e s) (go_all (code_of g e (o + 1)) base m) _ _ (same_tops g)
+    (fewer base (o + 1) d g (omega arith))
     (agree top base (o + 1) n l g fa (plain_type b) e m s f.0 f.1 (holds_more top base d (o + 1) n g m s (omega arith) h))
     (λ v s1 m1 st kept.
     let number = number_is g.structs b v whole st.shape in

@@ -28,9 +28,10 @@ use Rattle.zir_code.specs.Typing.{HolderFits}
 use Rattle.zir_code.specs.Holding.{Holds, Kept, StandsAt}
 use Rattle.zir_code.specs.Peaks.{behind}
 use Rattle.zir_code.specs.Statements.{has_index, along_code, along_shift, along_peak, kept_at, keeping, storing, storing_if, storing_peak, assign_code}
-use Rattle.zir_code.specs.Fine.{SoleIn, Fits, AlongFits, AgreesStmt}
+use Rattle.zir_code.specs.Fine.{SoleIn, Fits, AlongFits}
 use Rattle.zir_code.specs.Calls.{Calls}
 use Rattle.zir_code.specs.Laws.{ExpressionsAgree}
+use Rattle.zir_code.proofs.Sparing.{AgreesSparing as AgreesStmt, Narrows, fewer}
 use Rattle.zir_code.proofs.Kept.{low_place, variable_found, kept_holds, kept_less, holds_kept, changed_cell, cell_written, kept_changed}
 use Rattle.zir_code.proofs.Agreeing.{go_all-append}
 use Rattle.zir_code.proofs.Moves.{Placed, Goes, Settled, settles, moving_goes}
@@ -58,11 +59,12 @@ fitting top base d n l g t e m s f h =
 -- the value of an expression in the first free cells, and what follows
 pub after_settled : (top base d d' n k : ℕ) (l : Library) (g g' : Scope) (t : Ty) (e : Expr) (m : Memory) (s : State) (next : Val → State → Eval)
     (rest : List Step) →
-    SameTops g g' → ExpressionsAgree → Calls top l g.structs g.tops g.funs → Fits g d n t e → k ≡ layout_of g.structs t → Holds top base d n g m s →
+    SameTops g g' → Narrows base d d' g g' → ExpressionsAgree → Calls top l g.structs g.tops g.funs → Fits g d n t e → k ≡ layout_of g.structs t →
+    Holds top base d n g m s →
     ((v : Val) (s' : State) (m' : Memory) → StandsAt g.structs t v m' (base + d) → Kept top base d g m m' s s' →
     AgreesStmt top base d' n g' m' (next v s') (go_all rest base m')) →
     AgreesStmt top base d' n g' m (then_eval (ev l e s) next) (go_all (code_of g e d ++ (settling (stands g e d) d k ++ rest)) base m)
-after_settled top base d d' n k l g g' t e m s next rest z agree calls f size h on =
+after_settled top base d d' n k l g g' t e m s next rest z narrow agree calls f size h on =
     let x : Spot = stands g e d in
     let fit = f.1 in
     let room = value_room g n t e d f.0 in
@@ -76,7 +78,8 @@ after_settled top base d d' n k l g g' t e m s next rest z agree calls f size h 
     let w = settles top base d n g t v x m m1 s s1 h.apart (omega arith) h.room h.small kept st (fitting top base d n l g t e m s f h) in
     subst (λ q. AgreesStmt top base d' n g' m (next v s1) q) (sym (goes_on (Settled top base d g t v m s s1)
     (settling x d (layout_of g.structs t)) rest base m1 w))
-    (from_alike top base d' n g' m w.memory _ _ (alike_kept top base d g m w.memory s s1 w.so.kept) (on v s1 w.memory w.so.stands w.so.kept)))))
+    (from_alike top base d' n g' m w.memory _ _ (alike_kept top base d d' g g' m w.memory s s1 narrow w.so.kept)
+    (on v s1 w.memory w.so.stands w.so.kept)))))
 
 -- a value of one cell at most is ready where it stands
 few_ready : (top base d k : ℕ) (g : Scope) (t : Ty) (v : Val) (x : Spot) (m : Memory) → k ≤ 1 → k ≡ layout_of g.structs t →
@@ -102,7 +105,7 @@ kept_value zero top base d n l g t e m s next rest agree calls f size h on =
     subst (λ q. AgreesStmt top base d n g m (then_eval (ev l e s) next) q) (sym (go_all-append (code_of g e d) rest base m))
     (from_expression top base d d n g g t x m s (ev l e s) (go_all (code_of g e d) base m) next (go_all rest base) (same_tops g)
     (agree top base d n l g calls t e m s f.0 f.1 h)
-    (λ v s1 m1 st kept. from_alike top base d n g m m1 _ _ (alike_kept top base d g m m1 s s1 kept)
+    (λ v s1 m1 st kept. from_alike top base d n g m m1 _ _ (alike_kept top base d d g g m m1 s s1 (fewer base d d g (omega arith)) kept)
     (on v s1 m1 (few_ready top base d 0 g t v x m1 (omega arith) size st p) kept)))
 kept_value (suc zero) top base d n l g t e m s next rest agree calls f size h on =
     let x : Spot = stands g e d in
@@ -110,7 +113,7 @@ kept_value (suc zero) top base d n l g t e m s next rest agree calls f size h on
     subst (λ q. AgreesStmt top base d n g m (then_eval (ev l e s) next) q) (sym (go_all-append (code_of g e d) rest base m))
     (from_expression top base d d n g g t x m s (ev l e s) (go_all (code_of g e d) base m) next (go_all rest base) (same_tops g)
     (agree top base d n l g calls t e m s f.0 f.1 h)
-    (λ v s1 m1 st kept. from_alike top base d n g m m1 _ _ (alike_kept top base d g m m1 s s1 kept)
+    (λ v s1 m1 st kept. from_alike top base d n g m m1 _ _ (alike_kept top base d d g g m m1 s s1 (fewer base d d g (omega arith)) kept)
     (on v s1 m1 (few_ready top base d 1 g t v x m1 (omega arith) size st p) kept)))
 kept_value (suc (suc k)) top base d n l g t e m s next rest agree calls f size h on =
     let fit = f.1 in
@@ -119,7 +122,7 @@ kept_value (suc (suc k)) top base d n l g t e m s next rest agree calls f size h
     let small : length m.cells < 2 ^ 63 = h.small in
     let apart : top ≤ base = h.apart in
     let q : from_base base d ≡ base + d = low_place base d (omega arith) in
-    after_settled top base d d n (suc (suc k)) l g g t e m s next rest (same_tops g) agree calls f size h
+    after_settled top base d d n (suc (suc k)) l g g t e m s next rest (same_tops g) (fewer base d d g (omega arith)) agree calls f size h
     (λ v s1 m1 st kept. on v s1 m1 (record {
       size = size;
       stands = subst (λ i. StandsAt g.structs t v m1 i) (sym q) st;
@@ -175,7 +178,7 @@ stores_at top base d n k l g id v t w y path m s fit z =
     let f = variable_found top base d n g m s id v h z.found in
     let end = f.before in
     let size = sizes-fit g.structs v.ty (look_up s.store id) f.shape in
-    from_alike top base d n g m m1 _ _ (alike_kept top base o g m m1 s s kept)
+    from_alike top base d n g m m1 _ _ (alike_kept top base o d g g m m1 s s (fewer base o d g (omega arith)) kept)
     (subst (λ r. AgreesStmt top base d n g m1 (along l path (look_up s.store id) s (stored id w)) r)
     (sym (go_all-append (along_code g v.ty o path) last base m1))
     (along_agrees path top base o d n l g v.ty t (go_all last base) z.leads (look_up s.store id) 0 m1 s (stored id w) (record {

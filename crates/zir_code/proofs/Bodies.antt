@@ -23,12 +23,13 @@ use Rattle.zir_expr.specs.Running.{go_all}
 use Rattle.zir_code.specs.Scopes.{Scope}
 use Rattle.zir_code.specs.Types.{cells_for, size_in}
 use Rattle.zir_code.specs.Coding.{fixed, read_at, stands, code_of, moving, settling}
-use Rattle.zir_code.specs.Holding.{At, StandsAt, Hold, InOrder, Holds, Kept, Agrees}
+use Rattle.zir_code.specs.Holding.{At, StandsAt, Hold, InOrder, Holds, Kept, Spares, Ends, Agrees}
 use Rattle.zir_code.specs.Statements.{stmt_code, scope_after, free_after}
-use Rattle.zir_code.specs.Fine.{Fits, Fine, Went, Stopped, AgreesStmt}
+use Rattle.zir_code.specs.Fine.{Fits, Fine, Went as Left, Stopped}
 use Rattle.zir_code.specs.Bodies.{all_code, scope_after_all, free_after_all, FineAll, parameters, cells_of_all, inside, result_code, ResultFits, body_code, FineBody, ArgumentsAt, Begins, AgreesEnd}
 use Rattle.zir_code.specs.Calls.{Calls}
-use Rattle.zir_code.specs.Laws.{ExpressionsAgree, StatementsAgree}
+use Rattle.zir_code.specs.Laws.{ExpressionsAgree, StatementsAgree, StatementsSpare}
+use Rattle.zir_code.proofs.Sparing.{WentSparing as Went, AgreesSparing as AgreesStmt, Grows, fewer, grows_none, grows_both, grows_statement, narrows, widens, spares_other}
 use Rattle.zir_code.proofs.Kept.{low_place, order_more, Changed}
 use Rattle.zir_code.proofs.Moves.{Placed, Moved, moves, moved_at, moving_goes, Goes}
 use Rattle.zir_code.proofs.Agreeing.{go_all-append, ends_then, ends_more, ends_less}
@@ -44,6 +45,16 @@ adds_all g d [] = adds_none g
 adds_all g d (a ∷ more) = adds_both g (scope_after g d a) (scope_after_all (scope_after g d a) (free_after g d a) more) (adds_statement g d a)
     (adds_all (scope_after g d a) (free_after g d a) more)
 
+-- the names that a list of statements adds
+grows_all : (base d n : ℕ) (g : Scope) (ss : List Stmt) → base + n < 2 ^ 63 → FineAll g d n ss →
+    Grows base d (free_after_all g d ss) g (scope_after_all g d ss)
+grows_all base d n g [] small f = grows_none base d g
+grows_all base d n g (a ∷ more) small f =
+    let g1 : Scope = scope_after g d a in
+    let d1 : ℕ = free_after g d a in
+    grows_both base d d1 (free_after_all g1 d1 more) g g1 (scope_after_all g1 d1 more) (grows_statement base d n g a small f.0)
+    (grows_all base d1 n g1 more small f.1)
+
 all_agree : (top base n : ℕ) (l : Library) → ExpressionsAgree → (ss : List Stmt) (d : ℕ) (g : Scope) → Calls top l g.structs g.tops g.funs →
     (m : Memory) (s : State) → FineAll g d n ss → Holds top base d n g m s →
     AgreesStmt top base (free_after_all g d ss) n (scope_after_all g d ss) m (does_all l ss s) (go_all (all_code g d ss) base m)
@@ -53,16 +64,62 @@ all_agree top base n l agree (a ∷ more) d g calls m s f h =
     let d1 : ℕ = free_after g d a in
     let d2 : ℕ = free_after_all g1 d1 more in
     let g2 : Scope = scope_after_all g1 d1 more in
+    let room : base + n ≤ length m.cells = h.room in
+    let small : length m.cells < 2 ^ 63 = h.small in
     subst (λ q. AgreesStmt top base d2 n g2 m (then_eval (does l a s) (λ v s'. does_all l more s')) q)
     (sym (go_all-append (stmt_code g d a) (all_code g1 d1 more) base m))
     (after_statements top base d1 d2 n g1 g2 m (does l a s) (go_all (stmt_code g d a) base m) (λ v s'. does_all l more s')
     (go_all (all_code g1 d1 more) base) (adds_tops g1 g2 (adds_all g1 d1 more))
+    (narrows base d1 d2 g1 g2 (grows_all base d1 n g1 more (omega arith) f.1))
     (statement_agrees top base n l agree a d g calls m s f.0 h)
     (λ v s' m' w. all_agree top base n l agree more d1 g1 (calls_after top l g g1 (adds_statement g d a) calls) m' s' f.1 w.holds))
 
+-- what statements leave, with the cells that belonged to no variable in scope before them
+abbrev pub AgreesApart : ℕ → ℕ → ℕ → ℕ → ℕ → Scope → Scope → Memory → Eval → Ran → Type 0
+AgreesApart top base d d' n g g' m r q =
+    Ends (λ v s' m'. Left top base d' n g' m m' s' × Spares top base d g m m') (λ s' m'. Stopped top base g'.structs g'.tops m m' s') r q
+
+-- the code of a list of statements does what they mean, and keeps those cells: two laws in one
+pub lists_agree_sparing : ExpressionsAgree → (top base d n : ℕ) (l : Library) (g : Scope) → Calls top l g.structs g.tops g.funs →
+    (ss : List Stmt) (m : Memory) (s : State) → FineAll g d n ss → Holds top base d n g m s →
+    AgreesApart top base d (free_after_all g d ss) n g (scope_after_all g d ss) m (does_all l ss s) (go_all (all_code g d ss) base m)
+lists_agree_sparing agree top base d n l g calls ss m s f h =
+    let d' : ℕ = free_after_all g d ss in
+    let g' : Scope = scope_after_all g d ss in
+    let room : base + n ≤ length m.cells = h.room in
+    let small : length m.cells < 2 ^ 63 = h.small in
+    ends_less (λ v s' m'. Went top base d' n g' m m' s') (λ s' m'. Stopped top base g'.structs g'.tops m m' s')
+    (λ v s' m'. Left top base d' n g' m m' s' × Spares top base d g m m') (λ s' m'. Stopped top base g'.structs g'.tops m m' s') (does_all l ss s)
+    (go_all (all_code g d ss) base m)
+    (λ v s' m' w. (
+      record { holds = w.holds; same = w.same; size = w.size },
+      spares_other top base d' d g' g m m' (widens base d d' g g' (grows_all base d n g ss (omega arith) f)) w.spare,
+    ))
+    (λ s' m' w. w) (all_agree top base n l agree ss d g calls m s f h)
+
 -- the code of a list of statements does what they mean
 pub lists_agree : ExpressionsAgree → StatementsAgree
-lists_agree agree top base d n l g calls ss m s f h = all_agree top base n l agree ss d g calls m s f h
+lists_agree agree top base d n l g calls ss m s f h =
+    let d' : ℕ = free_after_all g d ss in
+    let g' : Scope = scope_after_all g d ss in
+    ends_less (λ v s' m'. Left top base d' n g' m m' s' × Spares top base d g m m') (λ s' m'. Stopped top base g'.structs g'.tops m m' s')
+    (λ v s' m'. Left top base d' n g' m m' s') (λ s' m'. Stopped top base g'.structs g'.tops m m' s') (does_all l ss s)
+    (go_all (all_code g d ss) base m) (λ v s' m' w. w.0) (λ s' m' w. w) (lists_agree_sparing agree top base d n l g calls ss m s f h)
+
+-- what an end in memory leaves, whatever the value and the state
+spares_done : (top base d d' n : ℕ) (g g' : Scope) (m m' : Memory) (r : Eval) → AgreesApart top base d d' n g g' m r (Done m') →
+    Spares top base d g m m'
+spares_done top base d d' n g g' m m' (Got v s') a = a.1
+spares_done top base d d' n g g' m m' (Traps u s') a = absurd a
+spares_done top base d d' n g g' m m' RunsOut a = absurd a
+
+-- it keeps the cells of no variable in scope
+pub lists_spare : ExpressionsAgree → StatementsSpare
+lists_spare agree top base d n l g calls ss m m' s f h e =
+    let d' : ℕ = free_after_all g d ss in
+    let g' : Scope = scope_after_all g d ss in
+    spares_done top base d d' n g g' m m' (does_all l ss s)
+    (subst (AgreesApart top base d d' n g g' m (does_all l ss s)) e (lists_agree_sparing agree top base d n l g calls ss m s f h))
 
 -- a value has been moved to the first cells of the body
 record First (top base : ℕ) (g : Scope) (t : Ty) (v : Val) (m : Memory) (s : State) (m' : Memory) : Type 0 where
@@ -204,7 +261,7 @@ order_parameters g base i n (p ∷ ps) small le =
     )
 
 -- what holds where a body begins is what its statements want
-begun : (top base n : ℕ) (g : Scope) (ps : List Field) (vs : List Val) (m : Memory) (s : State) → Begins top base n g ps vs m s →
+pub begun : (top base n : ℕ) (g : Scope) (ps : List Field) (vs : List Val) (m : Memory) (s : State) → Begins top base n g ps vs m s →
     Holds top base (cells_of_all g ps) n (inside g ps) m (entered ps vs s)
 begun top base n g ps vs m s b =
     let room : base + n ≤ length m.cells = b.room in
@@ -244,8 +301,8 @@ end_after top base d n g g' t m r q next next' z a k =
     (λ s' m' x. stops m1 m' s1 s' w x) (k v s1 m1 w)) where
       stops : (m1 m' : Memory) (s1 s' : State) → Went top base d n g m m1 s1 → Stopped top base g.structs g.tops m1 m' s' →
           Stopped top base g'.structs g'.tops m m' s'
-      stops m1 m' s1 s' w x = stopped_in top base g g' m m' s' z (stopped_from top base g.structs g.tops m m1 m' s'
-          (alike_went top base d n g m m1 s1 w) x)
+      stops m1 m' s1 s' w x = stopped_in top base g g' m m' s' z (stopped_from top base d g g.structs g.tops m m1 m' s'
+          (alike_went top base d d n g g m m1 s1 (fewer base d d g (omega arith)) w) x)
 
 -- what a body keeps
 body_kept : (top base : ℕ) (g : Scope) (m m' : Memory) (s s' : State) → InOrder base 0 top g.tops → Stopped top base g.structs g.tops m m' s' →

@@ -29,7 +29,7 @@ use Rattle.zir_code.proofs.Calls.{calls_agree}
 use Rattle.zir_code.proofs.Reading.{argument_agrees}
 
 -- the code of a list of arguments puts their values into cells of their own, behind those of others, and what follows agrees
-arguments_agree : (es : List Expr) (P : Val → State → Memory → Type 0) (Q : State → Memory → Type 0) (top base d n : ℕ) (l : Library) (g : Scope)
+pub arguments_agree : (es : List Expr) (P : Val → State → Memory → Type 0) (Q : State → Memory → Type 0) (top base d n : ℕ) (l : Library) (g : Scope)
     (p : ℕ) (before ts : List Ty) (vs : List Val) (m m1 : Memory) (s s1 : State)
     (next : List Val → State → Eval) (next' : Memory → Ran) → ExpressionsAgree → Calls top l g.structs g.tops g.funs →
     p ≡ d + width_of_all g.structs before → peak_of_all g es p ≤ n → AllFit g n ts es →

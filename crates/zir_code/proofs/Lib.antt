@@ -9,6 +9,7 @@ pub mod Calls
 pub mod Calm
 pub mod Cells
 pub mod Complexes
+pub mod Framing
 pub mod Gathering
 pub mod Indexing
 pub mod Kept
@@ -28,6 +29,7 @@ pub mod Roots
 pub mod Rows
 pub mod Scopes
 pub mod Simulation
+pub mod Sparing
 pub mod Statements
 pub mod Stores
 pub mod Storing

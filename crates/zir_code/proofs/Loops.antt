@@ -26,15 +26,16 @@ use Rattle.zir_code.specs.Scopes.{Scope}
 use Rattle.zir_code.specs.Coding.{stands, code_of, settling}
 use Rattle.zir_code.specs.Holding.{Holds, StandsAt}
 use Rattle.zir_code.specs.Statements.{with_index}
-use Rattle.zir_code.specs.Fine.{Fits, AgreesStmt}
+use Rattle.zir_code.specs.Fine.{Fits}
 use Rattle.zir_code.specs.Calls.{Calls}
 use Rattle.zir_code.specs.Laws.{ExpressionsAgree}
+use Rattle.zir_code.proofs.Sparing.{AgreesSparing as AgreesStmt, Grows, fewer, grows_local, grows_both, narrows}
 use Rattle.zir_code.proofs.Cells.{cell}
 use Rattle.zir_code.proofs.Kept.{low_place, kept_holds, kept_less, holds_more, Changed, changed_cell, cell_written}
 use Rattle.zir_code.proofs.Agreeing.{go_all-append, then-done}
 use Rattle.zir_code.proofs.Stores.{hold_length}
 use Rattle.zir_code.proofs.Operating.{IsCell, is_set_cell, cell_from}
-use Rattle.zir_code.proofs.Alike.{from_alike, same_tops, after_expression, after_statements, idle, Adds, adds_both}
+use Rattle.zir_code.proofs.Alike.{alike_went, from_alike, same_tops, after_expression, after_statements, idle, Adds, adds_both}
 use Rattle.zir_code.proofs.Scopes.{leaves, declared, ticks_on}
 use Rattle.zir_code.proofs.Assigning.{after_settled}
 
@@ -76,7 +77,7 @@ if_agrees top base d n l g e first second a b m s agree calls f p q h =
     subst (λ z. AgreesStmt top base d n g m (then_eval (ev l e s) (λ v s1. choose_eval (is_one v) first second s1)) z)
     (sym (go_all-append (code_of g e d) (Branch fork ∷ []) base m))
     (after_expression top base d d n g g (plain BoolTy) (stands g e d) m s (ev l e s) (go_all (code_of g e d) base m) _
-    (go_all (Branch fork ∷ []) base) (same_tops g) (agree top base d n l g calls (plain BoolTy) e m s f.0 f.1 h)
+    (go_all (Branch fork ∷ []) base) (same_tops g) (fewer base d d g (omega arith)) (agree top base d n l g calls (plain BoolTy) e m s f.0 f.1 h)
     (λ v s1 m1 st k. chosen_way top base d n g m1 m1 fork v (λ c. choose_eval c first second s1) (truth_from g m1 (place_of base (stands g e d)) v st)
     (λ c. one_way c s1 m1 (kept_holds top base d d n g m m1 s s1 (omega arith) h k)))) where
       one_way : (c : Bool) (s1 : State) (m1 : Memory) → Holds top base d n g m1 s1 →
@@ -91,6 +92,7 @@ turns_agree : (k : ℕ) (top base d n : ℕ) (g : Scope) (l : Library) (e : Expr
     AgreesStmt top base d n g m (while_eval k (ev l e) body s) (go_turns k (go_all (code_of g e d) base) (stands g e d) base code m)
 turns_agree zero top base d n g l e body code m s agree calls f b h =
     after_expression top base d d n g g (plain BoolTy) (stands g e d) m s (ev l e s) (go_all (code_of g e d) base m) _ _ (same_tops g)
+    (fewer base d d g (omega arith))
     (agree top base d n l g calls (plain BoolTy) e m s f.0 f.1 h)
     (λ v s1 m1 st k. chosen_turn top base d n g m1 m1 (stands g e d) v (λ b. choose_eval b (λ s2. RunsOut) done s1) (λ m2. Out) Done
     (truth_from g m1 (place_of base (stands g e d)) v st)
@@ -101,6 +103,7 @@ turns_agree zero top base d n g l e body code m s agree calls f b h =
       ends false s1 m1 h = idle top base d n g m1 s1 h
 turns_agree (suc k) top base d n g l e body code m s agree calls f b h =
     after_expression top base d d n g g (plain BoolTy) (stands g e d) m s (ev l e s) (go_all (code_of g e d) base m) _ _ (same_tops g)
+    (fewer base d d g (omega arith))
     (agree top base d n l g calls (plain BoolTy) e m s f.0 f.1 h)
     (λ v s1 m1 st q. chosen_turn top base d n g m1 m1 (stands g e d) v
     (λ b. choose_eval b (λ s1. tick_eval s1 (λ s2. then_eval (body s2) (λ w s3. while_eval k (ev l e) body s3))) done s1)
@@ -119,7 +122,8 @@ turns_agree (suc k) top base d n g l e body code m s agree calls f b h =
           ticks_on top base d n g m1 s1 (λ s2. then_eval (body s2) (λ w s3. while_eval k (ev l e) body s3))
           (λ m3. then_run (code m3) (λ m4. go_turns k (go_all (code_of g e d) base) (stands g e d) base code m4)) h1
           (λ m3 s2 a3 h3. from_alike top base d n g m1 m3 _ _ a3
-          (after_statements top base d d n g g m3 (body s2) (code m3) _ _ (same_tops g) (b m3 s2 h3) (λ w s3 m4 went. rest m4 s3 went.holds)))
+          (after_statements top base d d n g g m3 (body s2) (code m3) _ _ (same_tops g) (fewer base d d g (omega arith)) (b m3 s2 h3)
+          (λ w s3 m4 went. rest m4 s3 went.holds)))
       goes false s1 m1 h1 rest = idle top base d n g m1 s1 h1
 
 -- the code of a loop with a test
@@ -155,6 +159,7 @@ counted_agree (suc k) i top base d n g id body code m s b h =
     (λ m1. then_run (code (put_cell (from_base base d) i m1)) (go_counted k (int_wrap w32 (i +ℤ pos 1)) (Local d) base code)) h
     (λ m1 s1 a h1. from_alike top base d n g m m1 _ _ a
     (after_statements top base d d n g g m1 (scope (λ s2. body (bind id (Num i) s2)) s1) (code (put_cell (from_base base d) i m1)) _ _ (same_tops g)
+    (fewer base d d g (omega arith))
     (b i m1 s1 h1)
     (λ w s3 m2 went. counted_agree k (next_index i) top base d n g id body code m2 s3 b went.holds)))
 
@@ -164,10 +169,10 @@ turns_same (negsuc n) = refl
 
 -- a turn: its index comes into scope, and all names leave it
 pub turn_agrees : (top base d d' n : ℕ) (g g' : Scope) (id : ℕ) (body : State → Eval) (code : Memory → Ran) → d + 1 ≤ n →
-    Adds (with_index g d id) g' →
+    Adds (with_index g d id) g' → Grows base (d + 1) d' (with_index g d id) g' →
     ((m1 : Memory) (s1 : State) → Holds top base (d + 1) n (with_index g d id) m1 s1 → AgreesStmt top base d' n g' m1 (body s1) (code m1)) →
     Turns top base d n g id body code
-turn_agrees top base d d' n g g' id body code le adds b j m s h =
+turn_agrees top base d d' n g g' id body code le adds grows b j m s h =
     let room : base + n ≤ length m.cells = h.room in
     let small : length m.cells < 2 ^ 63 = h.small in
     let q : from_base base d ≡ base + d = low_place base d (omega arith) in
@@ -178,8 +183,10 @@ turn_agrees top base d d' n g g' id body code le adds b j m s h =
     let x = adds_both g (with_index g d id) g' (record { names = _; locals = refl; structs = refl; tops = refl; funs = refl }) adds in
     let bound = declared top base d n g m m1 s id (plain Int32) (Num j) le (record { shape = (j, refl); cells = (omega arith, here, tt) }) c h in
     leaves top base d d' n (length s.store.locals) g g' m (body (bind id (Num j) s)) (code m1)
-    (hold_length g.structs m.cells base g.locals s.store.locals h.locals) x h.tops_in h.locals_in
-    (from_alike top base d' n g' m m1 _ _ (record { same = bound.same; size = bound.size }) (b m1 (bind id (Num j) s) bound.holds))
+    (hold_length g.structs m.cells base g.locals s.store.locals h.locals) x
+    (grows_both base d (d + 1) d' g (with_index g d id) g' (grows_local base d n g id (plain Int32) le (omega arith)) grows) h.tops_in h.locals_in
+    (from_alike top base d' n g' m m1 _ _ (alike_went top base (d + 1) d' n (with_index g d id) g' m m1 _
+    (narrows base (d + 1) d' (with_index g d id) g' grows) bound) (b m1 (bind id (Num j) s) bound.holds))
 
 -- the code of a loop that counts, once its bounds stand in their cells
 counts : (top base d n : ℕ) (g : Scope) (id : ℕ) (body : State → Eval) (steps : List Step) (x y : ℤ) (m : Memory) (s : State) →
@@ -213,11 +220,11 @@ for_agrees top base d n l g id a e body steps m s agree calls f f' le b h =
     let here : from_base base d ≡ base + d = low_place base d (omega arith) in
     let next : from_base base (d + 1) ≡ base + (d + 1) = low_place base (d + 1) (omega arith) in
     after_settled top base d d n 1 l g g (plain Int32) a m s (λ v s1. then_eval (ev l e s1)
-    (λ w s2. counted_eval (turns_of (num_of w)) id (num_of v) body s2)) _ (same_tops g) agree calls f refl h
+    (λ w s2. counted_eval (turns_of (num_of w)) id (num_of v) body s2)) _ (same_tops g) (fewer base d d g (omega arith)) agree calls f refl h
     (λ v s1 m1 st k.
     let h1 = kept_holds top base d d n g m m1 s s1 (omega arith) h k in
     after_settled top base (d + 1) d n 1 l g g (plain Int32) e m1 s1 (λ w s2. counted_eval (turns_of (num_of w)) id (num_of v) body s2) last
-    (same_tops g) agree calls f' refl (holds_more top base d (d + 1) n g m1 s1 (omega arith) h1)
+    (same_tops g) (fewer base (d + 1) d g (omega arith)) agree calls f' refl (holds_more top base d (d + 1) n g m1 s1 (omega arith) h1)
     (λ w s2 m2 st' k'.
     let x : ℤ = cell m1.cells (base + d) in
     let y : ℤ = cell m2.cells (base + (d + 1)) in

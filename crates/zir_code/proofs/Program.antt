@@ -41,7 +41,7 @@ bare_agrees top base structs tops funs t m s r q a =
       kept s' m' k = record { tops = k.tops; tops_in = k.tops_in; locals = k.locals; same = k.same; size = k.size; used = k.used; limit = k.limit }
 
 -- values of the parameters' types are arguments
-are_arguments : (structs : List StructDef) (cells : List ℤ) (i : ℕ) (ps : List Field) (vs : List Val) →
+pub are_arguments : (structs : List StructDef) (cells : List ℤ) (i : ℕ) (ps : List Field) (vs : List Val) →
     CellsAre structs cells i (map (λ p. type_of p.ty) ps) vs → ArgumentsAt structs cells i ps vs
 are_arguments structs cells i [] [] a = tt
 are_arguments structs cells i [] (v ∷ vs) a = absurd a

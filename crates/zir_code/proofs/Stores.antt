@@ -16,9 +16,10 @@ use Rattle.zir_expr.specs.Memory.Frames.{Memory}
 use Rattle.zir_code.specs.declared.scope.Holder.{Holder}
 use Rattle.zir_code.specs.Scopes.{Scope}
 use Rattle.zir_code.specs.Types.{cells_for}
-use Rattle.zir_code.specs.Holding.{At, HoldsOne, Hold, InOrder, Holds}
+use Rattle.zir_code.specs.Holding.{At, HoldsOne, Hold, InOrder, Holds, Spares}
 use Rattle.zir_code.specs.Statements.{with_local}
 use Rattle.zir_code.specs.Fine.{Absent, Sole, SoleIn}
+use Rattle.zir_code.proofs.Sparing.{outside_sole}
 use Rattle.zir_code.proofs.Cells.{cell}
 use Rattle.zir_code.proofs.Kept.{low_place, order_ends, same_one, same_hold, Changed}
 
@@ -198,5 +199,13 @@ pub assigned_same : (top base d n : ℕ) (g : Scope) (m m' : Memory) (s : State)
     cell m'.cells k ≡ cell m.cells k
 assigned_same top base d n g m m' s id v k sole c h a b = c.others k (elim sole [
   | inl z ↦ (let r = (sole_within base base (base + d) g.locals id v h.locals_in z.0).0 in inl (omega arith))
+  | inr z ↦ (let r = (sole_within base 0 top g.tops id v h.tops_in z.1).1 in inr (omega arith))
+])
+
+-- nor any cell of no variable in scope
+pub assigned_spares : (top base d n : ℕ) (g : Scope) (m m' : Memory) (s : State) (id : ℕ) (v : Holder) → SoleIn g id v →
+    Changed (place_of base v.spot) (place_of base v.spot + v.cells) m m' → Holds top base d n g m s → Spares top base d g m m'
+assigned_spares top base d n g m m' s id v sole c h i a b o = c.others i (elim sole [
+  | inl z ↦ outside_sole base g.locals id v i z.0 o
   | inr z ↦ (let r = (sole_within base 0 top g.tops id v h.tops_in z.1).1 in inr (omega arith))
 ])

@@ -26,11 +26,12 @@ use Rattle.zir_code.specs.Types.{part_type, part_offset}
 use Rattle.zir_code.specs.Typing.{SpotFits, HolderFits}
 use Rattle.zir_code.specs.Holding.{At, Holds, Kept, StandsAt}
 use Rattle.zir_code.specs.Statements.{has_index, along_shift}
-use Rattle.zir_code.specs.Fine.{SoleIn, AlongFits, AgreesStmt}
+use Rattle.zir_code.specs.Fine.{SoleIn, AlongFits}
+use Rattle.zir_code.proofs.Sparing.{AgreesSparing as AgreesStmt}
 use Rattle.zir_code.proofs.Cells.{at_front, at_back, at_both, at_same}
 use Rattle.zir_code.proofs.Kept.{low_place, Changed, variable_found}
 use Rattle.zir_code.proofs.Moves.{Moved, moves, moved_at}
-use Rattle.zir_code.proofs.Stores.{assigned_holds, assigned_same}
+use Rattle.zir_code.proofs.Stores.{assigned_holds, assigned_same, assigned_spares}
 use Rattle.zir_code.proofs.Places.{part_stands}
 use Rattle.zir_code.proofs.Replacing.{Writes, writes_all, writes_part}
 use Rattle.zir_code.proofs.TypesFound.{part_found}
@@ -139,6 +140,7 @@ store_agrees top base d n room k g id v t w y steps m s q sole fits le h r write
           (subst (At m'.cells p) (sym has.cells) (overlaid_at (p + k) (p + k + n) p k (cells_of (look_up s.store id)) (cells_of w) m m'
           (omega arith) refl (omega arith) by.changed f.cells there)) c h;
       same = λ i a b. assigned_same top base d room g m m' s id v i sole c h a b;
+      spare = assigned_spares top base d room g m m' s id v sole c h;
       size = c.size;
     } where
       apart : (n ≤ 1) ⊎ (base + d ≤ place_of base y) → (place_of base y < place_of base v.spot + k) ⊎ (place_of base v.spot + k ≤ place_of base y) →

@@ -3,7 +3,7 @@
 
 pub mod scope;
 
-ghost use Rattle.zir_code.specs.Laws.{ExpressionsAgree, StatementsAgree, FunctionsAgree, TypesAreFound};
+ghost use Rattle.zir_code.specs.Laws.{ExpressionsAgree, StatementsAgree, StatementsSpare, FunctionsAgree, TypesAreFound};
 
 /// The code of an expression does what the expression means: the steps end with its value in the cells where it stands, by the same
 /// trap, or with the budget spent, and leave all cells before the free ones as they were.
@@ -15,6 +15,11 @@ pub fn expressions_agree()
 /// trap, or with the budget spent.
 pub fn statements_agree()
     ensures { StatementsAgree }
+{}
+
+/// The code of statements that come to their end leaves the cells that belong to no variable in scope as they were.
+pub fn statements_spare()
+    ensures { StatementsSpare }
 {}
 
 /// The code of each function of a program does what the function means in it.

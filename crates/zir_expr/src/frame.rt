@@ -138,6 +138,11 @@ impl Frame {
     pub fn copy(&mut self, to: usize, from: usize, n: u32)
         ensures { moved n to from self.old ≡ self.new }
     {
+        if n == 1 {
+            let cell = self.cell(from);
+            self.put(to, cell);
+            return;
+        }
         let mut to = to;
         let mut from = from;
         for _past in 0..n {

@@ -97,6 +97,15 @@ pub struct Counting {
 pub fn run(steps: &[Step], frame: &mut Frame, base: usize) -> Result<(), Halt>
     ensures { go_all steps.now base frame.old ≡ ended result frame.new }
 {
+    run_each(steps, frame, base)
+}
+
+/// The same inside the loops, so that a turn costs no call.
+#[cycle(going)]
+#[inline(always)]
+fn run_each(steps: &[Step], frame: &mut Frame, base: usize) -> Result<(), Halt>
+    ensures { go_all steps.now base frame.old ≡ ended result frame.new }
+{
     for step in steps {
         run_one(step, frame, base)?;
     }
@@ -173,14 +182,14 @@ fn take_turns(turn: &Turn, frame: &mut Frame, base: usize) -> Result<(), Halt>
 {
     let left = frame.left();
     for past in 0..left {
-        run(turn.test.as_slice(), frame, base)?;
+        run_each(turn.test.as_slice(), frame, base)?;
         if frame.cell(turn.cell.index(base)) == 0 {
             return Ok(());
         }
         frame.tick()?;
-        run(turn.body.as_slice(), frame, base)?;
+        run_each(turn.body.as_slice(), frame, base)?;
     }
-    run(turn.test.as_slice(), frame, base)?;
+    run_each(turn.test.as_slice(), frame, base)?;
     if frame.cell(turn.cell.index(base)) == 0 {
         Ok(())
     } else {
@@ -199,7 +208,7 @@ fn count_turns(counting: &Counting, frame: &mut Frame, base: usize) -> Result<()
     for past in 0..turns {
         frame.tick()?;
         frame.put(at, i);
-        run(counting.body.as_slice(), frame, base)?;
+        run_each(counting.body.as_slice(), frame, base)?;
         i = Whole::ThirtyTwo.sum(i, 1);
     }
     Ok(())

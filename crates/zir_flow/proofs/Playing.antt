@@ -1,14 +1,13 @@
 -- A stage that plays a process up to its end with a value, and what then follows.
-use Rattle.std.proofs.Common.{◌≡◌, ℕ, zero, suc, ◌+◌, ◌%◌, ◌^◌, List, ap, sym, subst, refl, ◌∙◌}
+use Rattle.std.proofs.Common.{List}
 use Rattle.zir_tree.specs.declared.value.Val.{Val}
 use Rattle.zir_tree.specs.declared.ends.End.{End}
 use Rattle.zir_tree.specs.declared.ends.Trap.{Trap}
 use Rattle.zir_tree.specs.declared.ends.End.TheVariants.{Value, Starved, Trap as Trapped, Spent}
 use Rattle.zir_meaning.specs.Store.{Store}
 use Rattle.zir_meaning.specs.Trace.{State, Point, point}
-use Rattle.zir_meaning.specs.Evaluation.{Eval, Got, Traps, RunsOut}
 use Rattle.zir_cells.specs.Cells.{cells_of}
-use Rattle.zir_laws.specs.Process.{Proc, Gives, Ends, Needs, NextProc, goes_on, then_proc, spent_proc}
+use Rattle.zir_laws.specs.Process.{Proc, Gives, Ends, Needs, NextProc, goes_on, then_proc}
 use Rattle.zir_flow.specs.declared.instruction.Instruction.{Instruction}
 use Rattle.zir_flow.specs.Stages.{Stage, Gone, handed}
 use Rattle.zir_flow.specs.Playing.{Watch, Comes, GivesAt, NeedsAt, EndsAt, TrapsAt, PlaysEnd, Plays}
@@ -81,14 +80,18 @@ pub arrives_holds : (A B : Arriving) (w w' : Watch) (code : List Instruction) (p
     ((v : Val) (s' : State) (st' : Stage) → A v s' st' → B v s' st') → ((st' : Stage) (store : Store) → w.holds st' store → w'.holds st' store) →
     ((x : Val) → w'.element x → w.element x) → ((x : Val) → w.output x → w'.output x) → Arrives A w code p st → Arrives B w' code p st
 arrives_holds A B w w' code (Gives o p) st f g e u h =
-    let at = h.1 in
-    (h.0, record { taken = at.taken; ticks = at.ticks; comes = at.comes; at = at.at; holds = g h.0 o.at.store at.holds; output = u o.value at.output },
-    arrives_holds A B w w' code p h.0 f g e u h.2)
+    let at = h.1 in (
+      h.0,
+      record { taken = at.taken; ticks = at.ticks; comes = at.comes; at = at.at; holds = g h.0 o.at.store at.holds; output = u o.value at.output },
+      arrives_holds A B w w' code p h.0 f g e u h.2,
+    )
 arrives_holds A B w w' code (Ends x s) st f g e u h = end_holds A B code x s st f h
 arrives_holds A B w w' code (Needs s k) st f g e u h =
-    let at = h.1 in
-    (h.0, record { taken = at.taken; ticks = at.ticks; comes = at.comes; at = at.at; holds = g h.0 s.store at.holds },
-    λ x fits. arrives_holds A B w w' code (k x) (handed code (cells_of x) h.0) f g e u (h.2 x (e x fits)))
+    let at = h.1 in (
+      h.0,
+      record { taken = at.taken; ticks = at.ticks; comes = at.comes; at = at.at; holds = g h.0 s.store at.holds },
+      λ x fits. arrives_holds A B w w' code (k x) (handed code (cells_of x) h.0) f g e u (h.2 x (e x fits)),
+    )
 
 end_plays : (A : Arriving) (w : Watch) (code : List Instruction) (e : End) (s : State) (st : Stage) → ArrivesEnd A code e s st →
     ((v : Val) (s' : State) (st' : Stage) → A v s' st' → EndsAt w code st' v (point s')) → PlaysEnd w code e s st

@@ -1,15 +1,16 @@
 -- Where a component begins, what is watched of it, and where it ends.
-use Rattle.std.specs.Prelude.{ℕ, ◌+◌, ◌<◌, ◌≤◌, ◌%◌, ◌^◌, max, List, [], ◌∷◌, Option, Some, None, ◌≡◌, length, slice_index_or, pos}
+use Rattle.std.specs.Prelude.{ℕ, ◌+◌, ◌<◌, ◌≤◌, ◌%◌, ◌^◌, max, List, [], ◌∷◌, Option, Some, ◌≡◌, length, slice_index_or, pos}
 use Rattle.zir_tree.specs.declared.value.Val.{Val}
 use Rattle.zir_tree.specs.declared.value.Slot.{Slot}
 use Rattle.zir_tree.specs.declared.types.Ty.{Ty}
 use Rattle.zir_tree.specs.declared.types.StructDef.{StructDef}
-use Rattle.zir_tree.specs.declared.comp.Comp.{Comp, Row_of-Member}
+use Rattle.zir_tree.specs.declared.comp.Comp.{Comp}
 use Rattle.zir_tree.specs.declared.program.Core.{Core}
 use Rattle.zir_meaning.specs.Store.{Store}
 use Rattle.zir_meaning.specs.Trace.{State}
 use Rattle.zir_meaning.specs.Instances.{around}
 use Rattle.zir_laws.specs.Process.{Procs, proc}
+use Rattle.zir_laws.proofs.Components.{ProcsProceed}
 use Rattle.zir_cells.specs.Layout.{layout_of}
 use Rattle.zir_shapes.specs.Shapes.{Shaped}
 use Rattle.zir_expr.specs.Memory.{from_base}
@@ -29,7 +30,7 @@ use Rattle.zir_flow.specs.Fitting.{EmitsFit, Flows, RoomFits, depth_of, shape_of
 use Rattle.zir_flow.specs.Playing.{Watch}
 use Rattle.zir_flow.specs.Program.{CodeAt}
 use Rattle.zir_flow.specs.Laws.{HoldsStore, ValueStands}
-use Rattle.zir_flow.proofs.Playing.{Arriving, Arrives}
+use Rattle.zir_flow.proofs.Playing.{Arrives}
 
 -- where components are: the program, its code and its instances, what these do, the cells of the top variables and of the body that runs among all cells, the
 -- shape of the room for compositions, the calls that the body is in, and how many there may be
@@ -153,11 +154,12 @@ EntryPlays a structs tops k e =
 abbrev pub moved_to : Ground → ℕ → ℕ → Shape → List Caller → Ground
 moved_to a base n shape calls = record a { base = base; n = n; shape = shape; calls = calls }
 
--- what is known of the ground: the code of functions does what they mean, that of instances what they do
+-- what is known of the ground: the code of functions does what they mean, that of instances what they do, within the ticks left
 pub record Solid (a : Ground) (g : Scope) : Type 0 where
   pub functions : Calls a.top (around a.core).library g.structs g.tops g.funs
   pub assigned : a.st.assigned ≡ (around a.core).assigned
   pub small : length a.code < 2 ^ 32
+  pub proceeds : ProcsProceed a.procs
   pub entries : (k : ℕ) (e : Entry) → a.st.entries k ≡ Some e → (base n : ℕ) (shape : Shape) (calls : List Caller) →
       EntryPlays (moved_to a base n shape calls) g.structs g.tops k e
 

@@ -1,5 +1,5 @@
 -- Which components are well typed, how deep their calls go, and which memories they ask for.
-use Rattle.std.specs.Prelude.{ℕ, suc, ◌+◌, ◌*◌, ◌≤◌, max, List, [], ◌∷◌, Bool, true, false, Option, Some, None, ◌≡◌, ◌⊎◌, length, nat_eq}
+use Rattle.std.specs.Prelude.{ℕ, suc, ◌+◌, ◌*◌, ◌≤◌, max, List, [], ◌∷◌, Option, Some, None, ◌≡◌, ◌⊎◌, length}
 use Rattle.zir_tree.specs.declared.types.Base.TheVariants.{Unit as UnitTy, Bool as BoolTy, Int32}
 use Rattle.zir_tree.specs.declared.types.Ty.{Ty}
 use Rattle.zir_tree.specs.declared.stmt.Body.{Body}
@@ -9,18 +9,17 @@ use Rattle.zir_tree.specs.declared.comp.Member.{Bind, Var, Run as RunMember}
 use Rattle.zir_meaning.specs.Values.{type_of}
 use Rattle.zir_shapes.specs.Shapes.{StructsBefore}
 use Rattle.zir_shapes.specs.Offsets.{plain_type as plain, array_type as array_of}
-use Rattle.zir_expr.specs.Memory.Frames.{Memory}
 use Rattle.zir_code.specs.declared.scope.Holder.{Holder}
 use Rattle.zir_code.specs.declared.scope.Signature.{Signature}
 use Rattle.zir_code.specs.Scopes.{Scope}
-use Rattle.zir_code.specs.Types.{type_or_unit, result_type, cells_for}
-use Rattle.zir_code.specs.Peaks.{peak_of_all, needs_of}
+use Rattle.zir_code.specs.Types.{type_or_unit, cells_for}
+use Rattle.zir_code.specs.Peaks.{peak_of_all}
 use Rattle.zir_code.specs.Typing.{AllFit}
 use Rattle.zir_code.specs.Fine.{Absent, Fits, InitialFits}
 use Rattle.zir_code.specs.Statements.{with_local, with_index}
 use Rattle.zir_code.specs.Bodies.{scope_after_all, free_after_all, FineAll}
 use Rattle.zir_flow.specs.Stages.{Room, Closed, Open}
-use Rattle.zir_flow.specs.Kinds.{Shape, Flat, Split, Entry, Setting, first_of, value_in, output_in}
+use Rattle.zir_flow.specs.Kinds.{Shape, Flat, Split, Entry, Setting, value_in, output_in}
 
 -- the numbers of these variables are distinct
 abbrev pub Distinct : List Holder → Type 0

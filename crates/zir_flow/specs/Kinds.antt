@@ -1,11 +1,9 @@
 -- What a component's value and outputs are, as its code finds them, and what instances are to their callers.
-use Rattle.std.specs.Prelude.{ℕ, ◌+◌, List, [], ◌∷◌, Option, Some, None}
+use Rattle.std.specs.Prelude.{ℕ, ◌+◌, List, Option, Some, None}
 use Rattle.zir_tree.specs.declared.types.Base.TheVariants.{Unit as UnitTy}
 use Rattle.zir_tree.specs.declared.types.Ty.{Ty}
 use Rattle.zir_tree.specs.declared.stmt.Body.{Body}
 use Rattle.zir_tree.specs.declared.stmt.Return.{Return}
-use Rattle.zir_tree.specs.declared.comp.Turning.{Turning}
-use Rattle.zir_tree.specs.declared.comp.Turning.TheVariants.{While as WhileTurns, Until as UntilTurns}
 use Rattle.zir_tree.specs.declared.comp.Comp.{Comp, Take as TakeComp, Takes as TakesComp, Emit, Emits, Return as ReturnComp, Do, Repeat', While', Times', For', If', Map, Filter, Call, Block', Pipe', end_of-Comp, more_of-Comp, Row_of-Member, end_of-Member, more_of-Member}
 use Rattle.zir_tree.specs.declared.comp.Member.{Bind, Var, Run as RunMember}
 use Rattle.zir_meaning.specs.Values.{type_of}
@@ -14,7 +12,7 @@ use Rattle.zir_shapes.specs.Offsets.{plain_type as plain, array_type as array_of
 use Rattle.zir_code.specs.Scopes.{Scope}
 use Rattle.zir_code.specs.Types.{type_in, element_type, type_or_unit, result_type, cells_for}
 use Rattle.zir_code.specs.Statements.{with_local, with_index}
-use Rattle.zir_code.specs.Bodies.{scope_after_all, free_after_all}
+use Rattle.zir_code.specs.Bodies.{scope_after_all}
 
 -- which memories a component's compositions ask for: none, or one for a left side and those inside both sides
 pub data Shape : Type 0 where

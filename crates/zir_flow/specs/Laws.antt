@@ -12,8 +12,7 @@ use Rattle.zir_laws.specs.Acts.{acts}
 use Rattle.zir_shapes.specs.Shapes.{Shaped}
 use Rattle.zir_expr.specs.Memory.{from_base}
 use Rattle.zir_code.specs.Scopes.{Scope}
-use Rattle.zir_code.specs.Types.{type_or_unit}
-use Rattle.zir_code.specs.Holding.{At, Hold, InOrder, Holds}
+use Rattle.zir_code.specs.Holding.{At, Hold, Holds}
 use Rattle.zir_code.specs.Calls.{Calls}
 use Rattle.zir_flow.specs.declared.instruction.Instruction.{Instruction}
 use Rattle.zir_flow.specs.declared.instruction.Instruction.TheVariants.{Stop}

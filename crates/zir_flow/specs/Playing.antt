@@ -1,5 +1,5 @@
 -- A stage that plays a process: it comes to each of its events, one after the other.
-use Rattle.std.specs.Prelude.{ℕ, ℤ, ◌%◌, ◌^◌, List, ◌≡◌}
+use Rattle.std.specs.Prelude.{ℕ, ◌%◌, ◌^◌, List, ◌≡◌}
 use Rattle.zir_tree.specs.declared.value.Val.{Val}
 use Rattle.zir_tree.specs.declared.ends.End.{End}
 use Rattle.zir_tree.specs.declared.ends.Trap.{Trap}
@@ -9,7 +9,7 @@ use Rattle.zir_meaning.specs.Trace.{State, Point, point}
 use Rattle.zir_cells.specs.Cells.{cells_of}
 use Rattle.zir_laws.specs.Process.{Proc, Gives, Ends, Needs}
 use Rattle.zir_flow.specs.declared.instruction.Instruction.{Instruction}
-use Rattle.zir_flow.specs.Stages.{Stage, Turned, Going, Giving, Needing, Ended, Failed, Gone, turned_on, handed}
+use Rattle.zir_flow.specs.Stages.{Stage, Turned, Giving, Needing, Ended, Failed, Gone, turned_on, handed}
 
 -- what is watched of a stage: what holds of it and the store where it stands, which values its elements and its outputs may have, and where a value stands at
 -- its end

@@ -1,5 +1,5 @@
 -- The instances of a program with their entries, each over those before it.
-use Rattle.std.specs.Prelude.{ℕ, suc, ◌+◌, ◌≤◌, List, [], ◌∷◌, ◌++◌, Option, Some, None, ◌≡◌, length, map, nat_eq, slice_get}
+use Rattle.std.specs.Prelude.{ℕ, suc, ◌+◌, ◌≤◌, List, [], ◌∷◌, ◌++◌, Option, Some, None, ◌≡◌, length, map, nat_eq}
 use Rattle.zir_tree.specs.declared.types.Ty.{Ty}
 use Rattle.zir_tree.specs.declared.program.Core.{Core}
 use Rattle.zir_tree.specs.declared.program.Instance.{Instance}

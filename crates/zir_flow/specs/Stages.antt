@@ -1,8 +1,6 @@
 -- What a stage does: a thread alone, or a composition of two stages in which it stands.
 use Rattle.std.specs.Prelude.{ℕ, zero, suc, ◌+◌, ◌-◌, ℤ, List, [], ◌∷◌, Bool, true, false, nat_le}
 use Rattle.zir_tree.specs.declared.ends.Trap.{Trap}
-use Rattle.zir_expr.specs.declared.frame.Spot.{Spot}
-use Rattle.zir_expr.specs.declared.frame.Spot.TheVariants.{Local}
 use Rattle.zir_expr.specs.Memory.{from_base, place_of}
 use Rattle.zir_expr.specs.Memory.Frames.{Memory}
 use Rattle.zir_flow.specs.declared.instruction.Back.{Back}

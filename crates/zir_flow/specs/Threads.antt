@@ -1,7 +1,6 @@
 -- What instructions do with a thread: a place in the code, the cells, and the elements that were taken.
 use Rattle.std.specs.Prelude.{ℕ, zero, suc, ℤ, pos, negsuc, ◌+◌, ◌-◌, ◌*◌, ◌%◌, ◌^◌, List, [], ◌∷◌, Bool, true, false, Option, Some, None, length, nat_lt, slice_get}
 use Rattle.zir_tree.specs.declared.ends.Trap.{Trap}
-use Rattle.zir_expr.specs.declared.frame.Spot.{Spot}
 use Rattle.zir_expr.specs.declared.frame.Spot.TheVariants.{Local}
 use Rattle.zir_expr.specs.Answers.{is_set}
 use Rattle.zir_expr.specs.Memory.{cell_at, put_cell, after, from_base, place_of, Ran, Done, Trapped, Out, ticked}

@@ -12,7 +12,8 @@ use Rattle.zir_stage.specs.declared.event.Event.TheVariants.{Gives, Needs, Ends,
 use Rattle.zir_stage.specs.Coming.{Came, Stops, IsLeft, IsSpent, said, says, spent, gives_at, traps_at, over_if, point_if, point_within}
 use Rattle.zir_stage.specs.Standing.{given, stood}
 use Rattle.zir_stage.proofs.Forking.{came_by}
-use Rattle.zir_stage.proofs.Turning.{right_on, stops_right, stops_left, spun_left, then_on}
+use Rattle.zir_flow.proofs.Turning.{right_on, then_on}
+use Rattle.zir_stage.proofs.Turning.{stops_right, stops_left, spun_left}
 
 -- a thread that stands at a composition
 pub joined_is : (link : Option Stamp) (o : Option Joint) (p : Stamp) (j : Joint) (th : Thread) (l r : Stage) (room : Room) → link ≡ Some p → o ≡ Some j →

@@ -9,8 +9,9 @@ use Rattle.zir_stage.specs.declared.thread.Pause.TheVariants.{Goes, Offers, Want
 use Rattle.zir_stage.specs.declared.event.Event.{Event}
 use Rattle.zir_stage.specs.Pausing.{joint_at, forked, fork_by}
 use Rattle.zir_stage.specs.Coming.{Came, Stops, Paced, said, spent, event_by}
-use Rattle.zir_stage.proofs.Staying.{Stays, moves_stay}
-use Rattle.zir_stage.proofs.Turning.{goes_one, then_on}
+use Rattle.zir_flow.proofs.Staying.{Stays, moves_stay}
+use Rattle.zir_flow.proofs.Turning.{then_on}
+use Rattle.zir_stage.proofs.Turning.{goes_one}
 
 forked_same : (o : Option Joint) (code : List Instruction) (at th : Thread) → move code at ≡ forked o th → th ≡ at
 forked_same (Some j) code at th e = subst (λ m. Stays m at) e (moves_stay code at)

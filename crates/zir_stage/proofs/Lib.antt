@@ -1,4 +1,3 @@
 pub mod Composing
 pub mod Forking
-pub mod Staying
 pub mod Turning

@@ -2,8 +2,8 @@ use Rattle.std.proofs.Common.{◌≡◌, ◌-◌, drop}
 use Rattle.zir_expr.specs.Running.{go_all, go_turns, go_counted}
 use Rattle.zir_expr.proofs.steps.+going.Given as goal
 
-abbrev pub invariant-run-loop-step : goal.invariant-run-loop-step
-invariant-run-loop-step l = go_all l.steps l.base l.initial.frame ≡ go_all (drop l.step-index l.steps) l.base l.frame
+abbrev pub invariant-run_each-loop-step : goal.invariant-run_each-loop-step
+invariant-run_each-loop-step l = go_all l.steps l.base l.initial.frame ≡ go_all (drop l.step-index l.steps) l.base l.frame
 
 abbrev pub invariant-take_turns-loop-past : goal.invariant-take_turns-loop-past
 invariant-take_turns-loop-past l =

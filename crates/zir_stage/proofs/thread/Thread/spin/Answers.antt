@@ -1,6 +1,6 @@
 use Rattle.std.proofs.Common.{arith, ap, ◌+◌, ◌-◌, ◌≡◌}
 use Rattle.zir_flow.specs.Stages.{Alone, turned_by}
-use Rattle.zir_stage.proofs.Turning.{one_more}
+use Rattle.zir_flow.proofs.Turning.{one_more}
 use Rattle.zir_stage.proofs.thread.Thread.spin.Goals as goal
 
 pub loop-fuel-preserved : goal.loop-fuel-preserved

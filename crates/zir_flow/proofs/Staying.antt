@@ -10,7 +10,6 @@ use Rattle.zir_flow.specs.declared.instruction.Instruction.{Instruction}
 use Rattle.zir_flow.specs.declared.instruction.Instruction.TheVariants.{Run, Tick, Take, Takes, Give, Gives, Ahead, Again, Branch, Turn, Enter, Leave, Pipe, Stop}
 use Rattle.zir_flow.specs.Threads.{Thread, Move, Goes, Offers, Wants, Halts, Fails, Spends, Forks, move, move_if, moved_by, either_move, after_steps, turn_of, enter_if, left_for, onward, come, cells_from, next_of, counted_on, next_with, goes_if}
 use Rattle.zir_expr.specs.Answers.{is_set}
-use Rattle.zir_stage.specs.Pausing.{one_given}
 use Rattle.zir_flow.specs.Stages.{Stage, Alone, Joined, Room, Closed, Open, Turned, Going, Giving, Needing, Ended, Failed, Gone, turn, turned_by, joined, composed, pulled, either_turned, left_ended, right_ended}
 
 -- a thread that wants an element or begins a composition is this one
@@ -52,9 +51,9 @@ obeyed_stays (Take to) th = refl
 obeyed_stays (Takes s k) th = either_stays (nat_lt (come s th) s.count) (Wants th) (Goes (onward k th)) th refl tt
 obeyed_stays (Give x n) th = tt
 obeyed_stays (Gives s) th =
-    either_stays (nat_lt (come s th) s.count) (one_given s th) (Goes (onward 0 th)) th
-    (steps_stay (ticked th.memory)
-    (λ m. Offers (cells_from s.size (next_of s th) (counted_on s th m)) (record th { memory = counted_on s th m })) th (λ m. tt)) tt
+    let next : Memory → Move = λ m. Offers (cells_from s.size (next_of s th) (counted_on s th m)) (record th { memory = counted_on s th m }) in
+    either_stays (nat_lt (come s th) s.count) (after_steps (ticked th.memory) next th) (Goes (onward 0 th)) th
+    (steps_stay (ticked th.memory) next th (λ m. tt)) tt
 obeyed_stays (Ahead k) th = tt
 obeyed_stays (Again k) th = tt
 obeyed_stays (Branch x on k) th =
