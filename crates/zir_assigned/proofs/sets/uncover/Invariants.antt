@@ -1,6 +1,6 @@
 use Rattle.std.proofs.Common.{◌≡◌, ℕ, vec_len}
-use Rattle.zir_flatten.specs.Sets.{has, uncovered}
-use Rattle.zir_flatten.proofs.sets.uncover.Given as goal
+use Rattle.zir_assigned.specs.Sets.{has, uncovered}
+use Rattle.zir_assigned.proofs.sets.uncover.Given as goal
 
 -- what is left to uncover
 abbrev pub invariant-loop-last : goal.invariant-loop-last

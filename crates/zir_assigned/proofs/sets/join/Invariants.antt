@@ -1,7 +1,7 @@
 use Rattle.std.proofs.Common.{◌≡◌, ℕ, ◌||◌, nat_eq}
 use Rattle.std.specs.List.{list_any}
-use Rattle.zir_flatten.specs.Sets.{has}
-use Rattle.zir_flatten.proofs.sets.join.Given as goal
+use Rattle.zir_assigned.specs.Sets.{has}
+use Rattle.zir_assigned.proofs.sets.join.Given as goal
 
 -- the variables so far and those that are left
 abbrev pub invariant-loop-id : goal.invariant-loop-id

@@ -5,7 +5,8 @@ use Rattle.std.specs.declared.hash.BuildHasherDefault.{BuildHasherDefault}
 use Rattle.std.specs.HashSet.{HashSet, contains}
 use Rattle.zir_meaning.specs.Functions.{pick}
 use Rattle.zir_meaning.specs.Store.{among}
-use Rattle.zir_flatten.specs.declared.sets.Hidden.{Hidden}
+use Rattle.zir_assigned.specs.declared.sets.Hidden.{Hidden}
+use Rattle.zir_assigned.specs.declared.sets.Set.{Set}
 
 -- a set of variables
 abbrev pub Variables : Type 0
@@ -14,6 +15,10 @@ Variables = HashSet ℕ (BuildHasherDefault FoldHasher)
 -- whether it has a variable
 abbrev pub has : Variables → ℕ → Bool
 has ids id = contains nat_eq ids id
+
+-- a set has these variables and no others
+abbrev pub Holds : Set → List ℕ → Type 0
+Holds set ids = (id : ℕ) → has set.ids id ≡ among ids id
 
 -- the variables of a set and these
 abbrev pub Adds : List ℕ → (ℕ → Bool) → (ℕ → Bool) → Type 0

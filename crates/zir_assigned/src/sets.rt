@@ -1,10 +1,26 @@
 // Sets of variables.
 
-ghost use Rattle.std.specs.Prelude.{◌≡◌, ℕ, ◌||◌, [], ◌∷◌, OnOk};
-ghost use Rattle.zir_flatten.specs.Sets.{Adds, has, restored, uncovered};
+ghost use Rattle.std.specs.Prelude.{◌≡◌, ℕ, ◌||◌, List, [], ◌∷◌, OnOk};
+ghost use Rattle.zir_meaning.specs.Store.{among};
+ghost use Rattle.zir_assigned.specs.Sets.{Adds, Holds, has, restored, uncovered};
 
 use std::alloc::AllocError;
 use std::collections::HashSet;
+
+/// A set of variables.
+#[derive(Drop)]
+pub struct Set {
+    pub ids: HashSet<u32>,
+}
+
+impl Set {
+    /// Whether a variable is in the set.
+    pub fn contains(&self, id: u32) -> bool
+        ensures { (ids : List ℕ) → Holds self.now ids → result ≡ among ids id }
+    {
+        self.ids.contains(&id)
+    }
+}
 
 /// A variable that was declared, and whether a set had its number before.
 #[derive(Clone, Copy)]
@@ -14,7 +30,7 @@ pub struct Hidden {
 }
 
 /// A set has one variable more.
-pub fn insert(ids: &mut HashSet<u32>, id: u32) -> Result<(), AllocError>
+pub(crate) fn insert(ids: &mut HashSet<u32>, id: u32) -> Result<(), AllocError>
     ensures { OnOk result (Adds (id ∷ []) (has ids.old) (has ids.new)) }
 {
     ids.insert(id)?;
@@ -22,7 +38,7 @@ pub fn insert(ids: &mut HashSet<u32>, id: u32) -> Result<(), AllocError>
 }
 
 /// A set has all variables of another besides its own.
-pub fn join(ids: &mut HashSet<u32>, others: &HashSet<u32>) -> Result<(), AllocError>
+pub(crate) fn join(ids: &mut HashSet<u32>, others: &HashSet<u32>) -> Result<(), AllocError>
     ensures { OnOk result ((id : ℕ) → has ids.new id ≡ (has ids.old id || has others.now id)) }
 {
     for id in others {
@@ -44,7 +60,7 @@ fn restore(ids: &mut HashSet<u32>, hidden: Hidden) -> Result<(), AllocError>
 }
 
 /// The same for variables, the one declared last first.
-pub fn uncover(ids: &mut HashSet<u32>, hidden: Vec<Hidden>) -> Result<(), AllocError>
+pub(crate) fn uncover(ids: &mut HashSet<u32>, hidden: Vec<Hidden>) -> Result<(), AllocError>
     ensures { OnOk result ((id : ℕ) → has ids.new id ≡ uncovered hidden.items (has ids.old) id) }
 {
     let mut hidden = hidden;

@@ -3,10 +3,10 @@
 ghost use Rattle.std.specs.Prelude.{◌≡◌, ℕ, ◌||◌, [], ◌++◌, IfOk, OnOk};
 ghost use Rattle.zir_meaning.specs.Assigned as meant;
 ghost use Rattle.zir_meaning.specs.Assigned.{Assigning};
-ghost use Rattle.zir_flatten.specs.Sets.{Adds, has, has_at, hidden_by};
-ghost use Rattle.zir_flatten.specs.Assigned.{Agrees, AgreesAlone, Opens, access_assigns, member_assigns, member_declares, members_then};
+ghost use Rattle.zir_assigned.specs.Sets.{Adds, Holds, has, has_at, hidden_by};
+ghost use Rattle.zir_assigned.specs.Assigned.{Agrees, AgreesAlone, Opens, access_assigns, member_assigns, member_declares, members_then};
 
-use crate::sets::{Hidden, insert, join, uncover};
+use crate::sets::{Hidden, Set, insert, join, uncover};
 use std::alloc::{AllocError, Global};
 use std::collections::HashSet;
 use zir_tree::comp::{Comp, Member};
@@ -32,7 +32,7 @@ fn join_at(ids: &mut HashSet<u32>, sets: &[HashSet<u32>], k: u32) -> Result<(), 
 }
 
 /// A variable that comes into scope.
-pub fn hide(ids: &HashSet<u32>, id: u32) -> Hidden
+fn hide(ids: &HashSet<u32>, id: u32) -> Hidden
     ensures { result ≡ record { id = id; was = has ids.now id } }
 {
     Hidden {
@@ -56,7 +56,7 @@ fn declare(
 }
 
 /// The variable that a member declares, if it is a declaration.
-pub fn declare_member(
+fn declare_member(
     m: &Member,
     ids: &HashSet<u32>,
     hidden: &mut Vec<Hidden>,
@@ -71,14 +71,14 @@ pub fn declare_member(
 
 impl Assigned {
     /// What a function assigns.
-    pub fn function(&self, k: u32, ids: &mut HashSet<u32>) -> Result<(), AllocError>
+    fn function(&self, k: u32, ids: &mut HashSet<u32>) -> Result<(), AllocError>
         ensures { (r : Assigning) → Agrees self.now r → OnOk result (Adds (r.by_fun k) (has ids.old) (has ids.new)) }
     {
         join_at(ids, self.functions.as_slice(), k)
     }
 
     /// What an instance assigns.
-    pub fn instance(&self, k: u32, ids: &mut HashSet<u32>) -> Result<(), AllocError>
+    fn instance(&self, k: u32, ids: &mut HashSet<u32>) -> Result<(), AllocError>
         ensures { (r : Assigning) → Agrees self.now r →
             OnOk result (Adds (r.by_instance k) (has ids.old) (has ids.new)) }
     {
@@ -98,7 +98,7 @@ impl Assigned {
 
     /// What an expression assigns.
     #[cycle(expressions)]
-    pub fn expression(&self, e: &Expr, ids: &mut HashSet<u32>) -> Result<(), AllocError>
+    fn expression(&self, e: &Expr, ids: &mut HashSet<u32>) -> Result<(), AllocError>
         ensures { (r : Assigning) → Agrees self.now r →
             OnOk result (Adds (meant.expr_assigns r e.now) (has ids.old) (has ids.new)) }
     {
@@ -137,7 +137,7 @@ impl Assigned {
 
     /// What expressions assign.
     #[cycle(expressions)]
-    pub fn expressions(&self, es: &[Expr], ids: &mut HashSet<u32>) -> Result<(), AllocError>
+    fn expressions(&self, es: &[Expr], ids: &mut HashSet<u32>) -> Result<(), AllocError>
         ensures { (r : Assigning) → Agrees self.now r →
             OnOk result (Adds (meant.exprs_assign r es.now) (has ids.old) (has ids.new)) }
     {
@@ -171,7 +171,7 @@ impl Assigned {
     }
 
     /// What an initial value assigns.
-    pub fn initial(&self, e: &Option<Expr>, ids: &mut HashSet<u32>) -> Result<(), AllocError>
+    fn initial(&self, e: &Option<Expr>, ids: &mut HashSet<u32>) -> Result<(), AllocError>
         ensures { (r : Assigning) → Agrees self.now r →
             OnOk result (Adds (meant.initial_assigns r e.now) (has ids.old) (has ids.new)) }
     {
@@ -250,7 +250,7 @@ impl Assigned {
     }
 
     /// What a body assigns.
-    pub fn body(
+    fn body(
         &self,
         alloc: Global,
         body: &Body,
@@ -268,7 +268,12 @@ impl Assigned {
 
     /// What a component assigns.
     #[cycle(components)]
-    fn component(&self, alloc: Global, c: &Comp, ids: &mut HashSet<u32>) -> Result<(), AllocError>
+    fn join_component(
+        &self,
+        alloc: Global,
+        c: &Comp,
+        ids: &mut HashSet<u32>,
+    ) -> Result<(), AllocError>
         ensures { (r : Assigning) → Agrees self.now r →
             OnOk result (Adds (meant.assigns r c.now) (has ids.old) (has ids.new)) }
     {
@@ -279,24 +284,24 @@ impl Assigned {
             Comp::Emits(e, _) => self.expression(e, ids),
             Comp::Return(e, _) => self.expression(e, ids),
             Comp::Do(body, _) => self.body(alloc, body, ids),
-            Comp::Repeat(c, _) => self.component(alloc, c.get(), ids),
+            Comp::Repeat(c, _) => self.join_component(alloc, c.get(), ids),
             Comp::While(_, e, c, _) => {
                 self.expression(e, ids)?;
-                self.component(alloc, c.get(), ids)
+                self.join_component(alloc, c.get(), ids)
             }
             Comp::Times(e, c, _) => {
                 self.expression(e, ids)?;
-                self.component(alloc, c.get(), ids)
+                self.join_component(alloc, c.get(), ids)
             }
             Comp::For(_, a, n, c, _) => {
                 self.expression(a, ids)?;
                 self.expression(n, ids)?;
-                self.component(alloc, c.get(), ids)
+                self.join_component(alloc, c.get(), ids)
             }
             Comp::If(e, a, b, _) => {
                 self.expression(e, ids)?;
-                self.component(alloc, a.get(), ids)?;
-                self.component(alloc, b.get(), ids)
+                self.join_component(alloc, a.get(), ids)?;
+                self.join_component(alloc, b.get(), ids)
             }
             Comp::Map(_, k, _) => self.function(*k, ids),
             Comp::Filter(_, k, _) => self.function(*k, ids),
@@ -306,8 +311,8 @@ impl Assigned {
             }
             Comp::Block(ms, _) => self.members(alloc, ms.as_slice(), ids),
             Comp::Pipe(_, a, b, _) => {
-                self.component(alloc, a.get(), ids)?;
-                self.component(alloc, b.get(), ids)
+                self.join_component(alloc, a.get(), ids)?;
+                self.join_component(alloc, b.get(), ids)
             }
         }
     }
@@ -319,9 +324,9 @@ impl Assigned {
             OnOk result (Adds (member_assigns r m.now) (has ids.old) (has ids.new)) }
     {
         match m {
-            Member::Bind(_, c) => self.component(alloc, c, ids),
+            Member::Bind(_, c) => self.join_component(alloc, c, ids),
             Member::Var(v) => self.initial(&v.initial, ids),
-            Member::Run(c) => self.component(alloc, c, ids),
+            Member::Run(c) => self.join_component(alloc, c, ids),
         }
     }
 
@@ -366,9 +371,18 @@ impl Assigned {
         let mut made = Assigned::of_functions(alloc, functions)?;
         for i in instances {
             let mut ids = HashSet::new(alloc);
-            made.component(alloc, &i.body, &mut ids)?;
+            made.join_component(alloc, &i.body, &mut ids)?;
             made.instances.push(ids)?;
         }
         Ok(made)
+    }
+
+    /// The variables that a component assigns.
+    pub fn component(&self, alloc: Global, c: &Comp) -> Result<Set, AllocError>
+        ensures { (r : Assigning) → Agrees self.now r → IfOk result (λ set. Holds set (meant.assigns r c.now)) }
+    {
+        let mut ids = HashSet::new(alloc);
+        self.join_component(alloc, c, &mut ids)?;
+        Ok(Set { ids })
     }
 }

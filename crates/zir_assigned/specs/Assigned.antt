@@ -6,9 +6,9 @@ use Rattle.zir_tree.specs.declared.stmt.Stmt.{Stmt}
 use Rattle.zir_tree.specs.declared.comp.Member.{Member, Bind, Var, Run}
 use Rattle.zir_meaning.specs.Store.{among}
 use Rattle.zir_meaning.specs.Assigned.{Assigning, expr_assigns, initial_assigns, assigns, all_assign, without}
-use Rattle.zir_flatten.specs.declared.sets.Hidden.{Hidden}
-use Rattle.zir_flatten.specs.declared.assigned.Assigned.{Assigned}
-use Rattle.zir_flatten.specs.Sets.{Adds, has_at, uncovered}
+use Rattle.zir_assigned.specs.declared.sets.Hidden.{Hidden}
+use Rattle.zir_assigned.specs.declared.assigned.Assigned.{Assigned}
+use Rattle.zir_assigned.specs.Sets.{Adds, has_at, uncovered}
 
 -- sets have what functions and instances assign
 pub record Agrees (made : Assigned) (r : Assigning) : Type 0 where
