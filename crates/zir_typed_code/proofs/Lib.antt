@@ -7,3 +7,6 @@ pub mod Statements
 pub mod Tops
 pub mod Functions
 pub mod Initials
+pub mod Rising
+pub mod Numbering
+pub mod Filled

@@ -1,0 +1,6 @@
+use Rattle.zir_typed_code.proofs.Filled.{expr_fills, list_fills}
+use Rattle.zir_typed_code.proofs.Numbering.{names_rise}
+use Rattle.zir_typed_code.proofs.typed_are_well_formed.Goals as goal
+
+pub returns : goal.returns
+returns c = ?todo
