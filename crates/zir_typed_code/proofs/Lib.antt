@@ -10,3 +10,5 @@ pub mod Initials
 pub mod Rising
 pub mod Numbering
 pub mod Filled
+pub mod Writing
+pub mod Forms
