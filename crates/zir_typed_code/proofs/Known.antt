@@ -145,7 +145,7 @@ base_part_known structs Complex32 k t o h = subst (λ (u : Ty). StructsBefore (l
 base_part_known structs (StructTy j) k t o h = struct_field_known structs j k t (slice_get structs j) o refl h
 
 -- A type known by what it is.
-type_known : (m : ℕ) (t u : Ty) → t ≡ u → StructsBefore m u.base → StructsBefore m t.base
+pub type_known : (m : ℕ) (t u : Ty) → t ≡ u → StructsBefore m u.base → StructsBefore m t.base
 type_known m t u e h = subst (λ (u : Ty). StructsBefore m u.base) (sym e) h
 
 -- What is seen is of types that name the first m structs alone.

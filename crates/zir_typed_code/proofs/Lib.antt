@@ -12,3 +12,5 @@ pub mod Numbering
 pub mod Filled
 pub mod Writing
 pub mod Forms
+pub mod FormsOfComponents
+pub mod FormsOfPrograms

@@ -134,7 +134,7 @@ seen_known m (v ∷ vs) id t a h = here (nat_eq v.id id) h (seen_known m vs id t
     here true h next = let e : v.ty ≡ t = cc in subst (λ (u : Ty). StructsBefore m u.base) e a.0
     here false h next = next h
 
-results_known : (m : ℕ) (ss : List Signature) (k : ℕ) (s : Signature) → AllResults m ss → slice_get ss k ≡ Some s → StructsBefore m s.result.base
+pub results_known : (m : ℕ) (ss : List Signature) (k : ℕ) (s : Signature) → AllResults m ss → slice_get ss k ≡ Some s → StructsBefore m s.result.base
 results_known m [] k s a h = absurd cc
 results_known m (r ∷ ss) zero s a h = let e : r ≡ s = cc in subst (λ (q : Signature). StructsBefore m q.result.base) e a.0
 results_known m (r ∷ ss) (suc k) s a h = results_known m ss k s a.1 h
