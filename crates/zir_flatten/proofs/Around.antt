@@ -25,7 +25,7 @@ use Rattle.zir_meaning.specs.Assigned.{assigns}
 use Rattle.zir_flow.specs.declared.instruction.Back.{Back}
 use Rattle.zir_flow.specs.declared.instruction.Instruction.{Instruction}
 use Rattle.zir_flow.specs.declared.instruction.Instruction.TheVariants.{Run, Tick, Ahead, Again, Branch, Turn}
-use Rattle.zir_flow.specs.Kinds.{Setting, Shape, Split, first_of, value_in, output_in}
+use Rattle.zir_flow.specs.Kinds.{Setting, Shape, Split, first_of, type_between, value_in, output_in}
 use Rattle.zir_flow.specs.Flowing.{flow_code, ends_where_set, index_code, pipe_code, back_of}
 use Rattle.zir_flow.specs.Fitting.{widest, depth_of, shape_of}
 use Rattle.zir_flat.specs.Needs.{flow_peak}
@@ -141,14 +141,14 @@ flowed-If st g input d e a b p steps test first second made t f s code value out
 
 -- a composition
 pub flowed-Pipe : (st : Setting) (g : Scope) (input : Ty) (d : ℕ) (link : Link) (a b : Comp) (p : Place) (back : List Back) (value other : ℕ) (left right made : Flow) →
-    back ≡ back_of (assigns st.assigned a) g → Flowed st g input d a left → Flowed st g (type_or_unit left.output) d b right → value ≡ cells_for g (type_or_unit left.value) →
+    back ≡ back_of (assigns st.assigned a) g → Flowed st g input d a left → Flowed st g (type_between left.output) d b right → value ≡ cells_for g (type_or_unit left.value) →
     other ≡ cells_for g (type_or_unit right.value) → made.code.items ≡ pipe_code d value back left.code.items right.code.items → made.value ≡ first_of left.value right.value →
     made.output ≡ right.output → made.peak ≡ max (d + max value other) (max left.peak right.peak) → made.depth ≡ max left.depth right.depth →
     shape_by made.layout ≡ Split (shape_by left.layout) (shape_by right.layout) → Flowed st g input d (Pipe link a b p) made
 unfolding shape-the_row-Comp-0 hidden-the_row-Comp-0 hidden
 flowed-Pipe st g input d link a b p back value other left right made bk f s0 v0 o0 code val output peak depth shape =
-    let between : Ty = type_or_unit (output_in st g input d a) in
-    let s : Flowed st g between d b right = subst (λ o. Flowed st g (type_or_unit o) d b right) f.output s0 in
+    let between : Ty = type_between (output_in st g input d a) in
+    let s : Flowed st g between d b right = subst (λ o. Flowed st g (type_between o) d b right) f.output s0 in
     let v : value ≡ cells_for g (type_or_unit (value_in st g input d a)) = v0 ∙ ap (λ t. cells_for g (type_or_unit t)) f.value in
     let o : other ≡ cells_for g (type_or_unit (value_in st g between d b)) = o0 ∙ ap (λ t. cells_for g (type_or_unit t)) s.value in
     let e2 = f.peak in

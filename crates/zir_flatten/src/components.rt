@@ -25,7 +25,7 @@ use crate::loops::{chosen, indexed, number_of_turns, range_of, repeated, tested,
 use crate::members::{Row, bound, declared, ended, followed, no_member};
 use crate::pipes::piped;
 use crate::places::Places;
-use crate::types::{copy_or_unit, plain};
+use crate::types::{copy_between, plain};
 use sqlite_items::Items;
 use std::alloc::Global;
 use zir_code::scope::Holder;
@@ -173,7 +173,7 @@ impl Places {
             back ≡ flowing.back_of (assigns st.assigned a) g → Flowed st g input d a left →
             IfOk result (Flowed st g input d (comp.Pipe link a b.now p)) }
     {
-        let between = copy_or_unit(alloc, &left.output)?;
+        let between = copy_between(alloc, &left.output)?;
         let right = self.component(alloc, names, b, &between, d)?;
         piped(alloc, names, d, back, left, right)
     }

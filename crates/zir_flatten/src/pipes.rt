@@ -5,10 +5,10 @@ ghost use Rattle.zir_tree.specs.declared.comp.Comp as comp;
 ghost use Rattle.zir_tree.specs.declared.comp.Comp.{Comp as OneComp};
 ghost use Rattle.zir_tree.specs.declared.comp.Link.{Link as Joining};
 ghost use Rattle.zir_tree.specs.declared.place.Place.{Place};
-ghost use Rattle.zir_code.specs.Types.{type_or_unit, cells_for as size_of};
+ghost use Rattle.zir_code.specs.Types.{cells_for as size_of};
 ghost use Rattle.zir_compile.specs.Names.{scope_of};
 ghost use Rattle.zir_flow.specs.Flowing as flowing;
-ghost use Rattle.zir_flow.specs.Kinds.{Setting};
+ghost use Rattle.zir_flow.specs.Kinds.{Setting, type_between};
 ghost use Rattle.zir_meaning.specs.Assigned.{assigns};
 ghost use Rattle.zir_flatten.specs.Making.{Flowed};
 
@@ -61,7 +61,7 @@ fn sides(
 pub fn piped(alloc: Global, names: &Names, d: u32, back: Items<Back>, left: Flow, right: Flow) -> Result<Flow, Unmade>
     ensures { (st : Setting) (input : Ty) (link : Joining) (a b : OneComp) (p : Place) → let g = scope_of names.now in
         back ≡ flowing.back_of (assigns st.assigned a) g → Flowed st g input d a left →
-        Flowed st g (type_or_unit left.output) d b right → IfOk result (Flowed st g input d (comp.Pipe link a b p)) }
+        Flowed st g (type_between left.output) d b right → IfOk result (Flowed st g input d (comp.Pipe link a b p)) }
 {
     let value = cells_or_none(names, &left.value)?;
     let other = cells_or_none(names, &right.value)?;

@@ -72,6 +72,16 @@ pub fn copy_or_unit(alloc: Global, ty: &Option<Ty>) -> Result<Ty, AllocError>
     }
 }
 
+/// The type of the elements that a left side with these outputs gives, and bit where it gives nothing.
+pub fn copy_between(alloc: Global, ty: &Option<Ty>) -> Result<Ty, AllocError>
+    ensures { IfOk result (λ made. made ≡ kinds.type_between ty.now) }
+{
+    match ty {
+        None => Ok(plain(alloc, Base::Bit)),
+        Some(ty) => copy_type(alloc, ty),
+    }
+}
+
 /// The first of two types that is there.
 pub fn first_of(a: Option<Ty>, b: Option<Ty>) -> Option<Ty>
     ensures { result ≡ kinds.first_of a b }

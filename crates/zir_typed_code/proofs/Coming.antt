@@ -1,7 +1,7 @@
 -- Names come into scope on both sides.
 use Rattle.std.specs.Prelude.{◌≡◌, refl, ◌≤◌, ◌+◌, ◌⊎◌, ℕ, List, [], ◌∷◌, ◌++◌, map, Bool, true, false, ◌||◌, if◌then◌else◌, nat_eq, Option, Some, None, slice_get, length}
 use Rattle.std.proofs.Common.{ap, ◌∙◌, sym, subst, arith, inl, inr}
-use Rattle.std.proofs.lemmas.Bool.{eqb-true, eq-eqb, ne_eqb}
+use Rattle.std.proofs.lemmas.Bool.{eqb-true, eqb-false, ne_eqb}
 use Rattle.std.proofs.lemmas.List.{append-nil, append_assoc}
 use Rattle.zir_tree.specs.declared.types.Ty.{Ty}
 use Rattle.zir_tree.specs.declared.types.Field.{Field}
@@ -18,13 +18,14 @@ use Rattle.zir_code.specs.Types.{cells_for}
 use Rattle.zir_code.specs.Fine.{Absent, Sole, SoleIn}
 use Rattle.zir_code.specs.Statements.{with_local}
 use Rattle.zir_code.specs.Bodies.{parameters, cells_of_all, inside}
+use Rattle.zir_flow.specs.Fitting.{Distinct, Apart}
 use Rattle.zir_sound.specs.Statements.{param_of}
 use Rattle.zir_sound.specs.Laws.{is_in}
 use Rattle.zir_typed_code.specs.Forming.{FormedParams, with_params}
-use Rattle.zir_typed_code.specs.Scopes.{Finds, MayCall, IsNew, SameScope}
+use Rattle.zir_typed_code.specs.Scopes.{Finds, MayCall, IsNew, HaveOwn, SameScope}
 
 -- What is seen with one more variable is one of those before it, or it.
-type_after : (vs : List Seen) (s : Seen) (id : ℕ) (t : Ty) → type_in (vs ++ s ∷ []) id ≡ Some t →
+pub type_after : (vs : List Seen) (s : Seen) (id : ℕ) (t : Ty) → type_in (vs ++ s ∷ []) id ≡ Some t →
     (type_in vs id ≡ Some t) ⊎ ((nat_eq s.id id ≡ true) × (s.ty ≡ t))
 type_after vs s id t h = walk vs h
   where
@@ -81,6 +82,19 @@ pub neither : (a b : Bool) → (a || b) ≡ false → (a ≡ false) × (b ≡ fa
 neither true b h = absurd cc
 neither false b h = (refl, h)
 
+-- Numbers that differ, the other way round.
+other_way : (a b : ℕ) → nat_eq a b ≡ false → nat_eq b a ≡ false
+other_way a b h = ne_eqb b a (λ e. eqb-false a b h (sym e))
+
+-- One more variable of a new number.
+distinct_more : (ds : List Holder) (h : Holder) → Distinct ds → Absent ds h.id → Distinct (ds ++ h ∷ [])
+distinct_more [] h o a = (tt, tt)
+distinct_more (d ∷ ds) h o a = (absent_past ds h d.id o.0 (other_way d.id h.id a.0), distinct_more ds h o.1 a.1)
+
+apart_more : (ds others : List Holder) (h : Holder) → Apart ds others → Absent others h.id → Apart (ds ++ h ∷ []) others
+apart_more [] others h o a = (a, tt)
+apart_more (d ∷ ds) others h o a = (o.0, apart_more ds others h o.1 a)
+
 -- A variable that was found is found past one more.
 finds_past : (g : Scope) (n d id other : ℕ) (t u : Ty) → nat_eq id other ≡ false → Finds g n other u → Finds (with_local g d id t) n other u
 finds_past g n d id other t u e r = record {
@@ -115,6 +129,9 @@ local_comes xs v g n w d id t new known le = record {
   variables = λ other u h. by_place other u (type_after v.variables (seen id t) other u h);
   functions = λ k s h. (let m : MayCall g k s = w.functions k s h in
       record { made = m.made; found = m.found; params = m.params; result = m.result; known = m.known });
+  own = (let h : Holder = record { id = id; spot = Local d; cells = cells_for g t; ty = t } in
+      let o : HaveOwn g = w.own in
+      record { tops = o.tops; locals = distinct_more g.locals h o.locals is_new.locals; between = apart_more g.locals g.tops h o.between is_new.tops });
   numbers = λ other h. (let c = neither (nat_eq id other) (is_in xs other) h in
       let r : IsNew g other = w.numbers other c.1 in
       record {

@@ -16,7 +16,11 @@ use Rattle.zir_tree.specs.declared.expr.Operator.TheVariants.{ShiftLeft, ShiftRi
 use Rattle.zir_tree.specs.declared.expr.Expr.{Expr, Unit as UnitLiteral, Bit, Bool as BoolLiteral, Int, Variable, Unary', Binary', Index', Slice'}
 use Rattle.zir_tree.specs.declared.expr.Expr.{Part', Call', Array', Convert', Complex', Row_of-Expr, end_of-Expr, more_of-Expr}
 use Rattle.zir_types.specs.Kinds.{scalar, arr}
+use Rattle.zir_types.specs.declared.scope.Signature.{Signature}
 use Rattle.zir_types.specs.Scope.{Visible}
+use Rattle.zir_types.specs.Scope.{type_in as seen_type}
+use Rattle.zir_types.specs.Programs.{defs_of}
+use Rattle.zir_sound.specs.Cores.{Begins}
 use Rattle.zir_types.specs.Typing.{row_length}
 use Rattle.zir_types.specs.Typing as types
 use Rattle.zir_shapes.specs.Shapes.{StructsBefore, FieldsBefore, Ordered}
@@ -141,49 +145,71 @@ base_part_known structs Complex32 k t o h = subst (λ (u : Ty). StructsBefore (l
 base_part_known structs (StructTy j) k t o h = struct_field_known structs j k t (slice_get structs j) o refl h
 
 -- A type known by what it is.
-type_known : (m : ℕ) (t u : Ty) → t ≡ u → StructsBefore m u.base → StructsBefore m t.base
+pub type_known : (m : ℕ) (t u : Ty) → t ≡ u → StructsBefore m u.base → StructsBefore m t.base
 type_known m t u e h = subst (λ (u : Ty). StructsBefore m u.base) (sym e) h
 
-mutual
-  pub expression_known : (xs : List ℕ) (v : Visible) (g : Scope) (n : ℕ) → SameScope xs v g n → (t : Ty) (e : Expr) → IsFilled e → types.Has v t e →
-      StructsBefore (length g.structs) t.base
-  expression_known xs v g n w t (UnitLiteral p) f h = type_known (length g.structs) t (scalar UnitTy) h tt
-  expression_known xs v g n w t (Bit b p) f h = type_known (length g.structs) t (scalar BitTy) h tt
-  expression_known xs v g n w t (BoolLiteral b p) f h = type_known (length g.structs) t (scalar BoolTy) h tt
-  expression_known xs v g n w t (Int k b p) f h = type_known (length g.structs) t (scalar b) h.0 (whole_known (length g.structs) b (holds_number b k h.1))
-  expression_known xs v g n w t (Variable x) f h =
-      let r : Finds g n x.id t = w.variables x.id t h in type_known (length g.structs) t r.holder.ty (sym r.type_is) r.fits.known
-  expression_known xs v g n w t (Unary' o b _ (more_of-Expr e end_of-Expr) p) f h =
-      type_known (length g.structs) t (scalar b) h.0 (prefix_known o (length g.structs) b (prefix_fits o b h.1))
-  expression_known xs v g n w t (Binary' o k _ (more_of-Expr a end_of-Expr) _ (more_of-Expr b end_of-Expr) p) f (r, m, is, rule, ha, hb) =
-      type_known (length g.structs) t (scalar r) is (operator_known o (length g.structs) k m r (operator_fits o k m r rule))
-  expression_known xs v g n w t (Index' _ (more_of-Expr a end_of-Expr) _ (more_of-Expr i end_of-Expr) p) f (k, b, whole, ha, hi) =
-      expression_known xs v g n w (arr k t) a f.0 ha
-  expression_known xs v g n w t (Slice' _ (more_of-Expr a end_of-Expr) _ (more_of-Expr i end_of-Expr) c p) f (u, k, b, is, whole, ha, hi) =
-      type_known (length g.structs) t (arr c u) is (expression_known xs v g n w (arr k u) a f.0 ha)
-  expression_known xs v g n w t (Part' _ (more_of-Expr a end_of-Expr) x k p) f (u, part, ha) =
-      let r : PartFits g.structs u k t = part_fits v.shapes g.structs u x k t w.structs part in base_part_known g.structs u.base k t w.ordered r.1
-  expression_known xs v g n w t (Call' x (Function k) _ es) f (c, called, is, have) =
-      let r = called_function v k (slice_get v.functions k) c refl called in
-      let m : MayCall g k r.0 = w.functions k r.0 r.1 in
-      type_known (length g.structs) t r.0.result (is ∙ r.3) m.known
-  expression_known xs v g n w t (Call' x (Struct k) _ es) f (c, called, is, have) =
-      let r = called_struct v k (slice_get v.shapes k) c refl called in
-      type_known (length g.structs) t (scalar (StructTy k)) (is ∙ r.3)
-      (got_before g.structs k r.0.def (struct_here v.shapes g.structs k r.0 w.structs r.1))
-  expression_known xs v g n w t (Array' _ es p) f (u, is, alike) =
-      type_known (length g.structs) t (arr (row_length es) u) is (elements_known xs v g n w u es f.0 f.1 alike)
-  expression_known xs v g n w t (Convert' b _ (more_of-Expr e end_of-Expr) p) f (c, is, rule, he) =
-      type_known (length g.structs) t (scalar b) is (conversion_known (length g.structs) b c (conversion_fits b c rule))
-  expression_known xs v g n w t (Complex' b _ (more_of-Expr x end_of-Expr) _ (more_of-Expr y end_of-Expr) p) f (h, is, half, hx, hy) =
-      let r = half_types b h half in type_known (length g.structs) t (scalar b) is (complex_known (length g.structs) b r.0)
+-- What is seen is of types that name the first m structs alone.
+pub record Knows (m : ℕ) (v : Visible) : Type 0 where
+  pub structs : List StructDef
+  pub begin : Begins (defs_of v.shapes) structs
+  pub ordered : Ordered structs
+  pub fit : length structs ≤ m
+  pub variables : (id : ℕ) (t : Ty) → seen_type v.variables id ≡ Some t → StructsBefore m t.base
+  pub functions : (k : ℕ) (s : Signature) → slice_get v.functions k ≡ Some s → StructsBefore m s.result.base
 
-  elements_known : (xs : List ℕ) (v : Visible) (g : Scope) (n : ℕ) → SameScope xs v g n → (u : Ty) {m : _} (es : Row_of-Expr m) → 1 ≤ row_length es →
-      AreFilled es → types.Alike v u es → StructsBefore (length g.structs) u.base
-  elements_known xs v g n w u end_of-Expr le f h = absurd (omega arith)
-  elements_known xs v g n w u (more_of-Expr e es) le f h = expression_known xs v g n w u e f.0 h.0
+mutual
+  -- The type of a typed expression names them alone too.
+  pub has_known : (m : ℕ) (v : Visible) → Knows m v → (t : Ty) (e : Expr) → IsFilled e → types.Has v t e → StructsBefore m t.base
+  has_known m v w t (UnitLiteral p) f h = type_known m t (scalar UnitTy) h tt
+  has_known m v w t (Bit b p) f h = type_known m t (scalar BitTy) h tt
+  has_known m v w t (BoolLiteral b p) f h = type_known m t (scalar BoolTy) h tt
+  has_known m v w t (Int k b p) f h = type_known m t (scalar b) h.0 (whole_known m b (holds_number b k h.1))
+  has_known m v w t (Variable x) f h = w.variables x.id t h
+  has_known m v w t (Unary' o b _ (more_of-Expr e end_of-Expr) p) f h =
+      type_known m t (scalar b) h.0 (prefix_known o m b (prefix_fits o b h.1))
+  has_known m v w t (Binary' o k _ (more_of-Expr a end_of-Expr) _ (more_of-Expr b end_of-Expr) p) f (r, c, is, rule, ha, hb) =
+      type_known m t (scalar r) is (operator_known o m k c r (operator_fits o k c r rule))
+  has_known m v w t (Index' _ (more_of-Expr a end_of-Expr) _ (more_of-Expr i end_of-Expr) p) f (k, b, whole, ha, hi) =
+      has_known m v w (arr k t) a f.0 ha
+  has_known m v w t (Slice' _ (more_of-Expr a end_of-Expr) _ (more_of-Expr i end_of-Expr) c p) f (u, k, b, is, whole, ha, hi) =
+      type_known m t (arr c u) is (has_known m v w (arr k u) a f.0 ha)
+  has_known m v w t (Part' _ (more_of-Expr a end_of-Expr) x k p) f (u, part, ha) =
+      let r : PartFits w.structs u k t = part_fits v.shapes w.structs u x k t w.begin part in
+      before_more t.base (length w.structs) m w.fit (base_part_known w.structs u.base k t w.ordered r.1)
+  has_known m v w t (Call' x (Function k) _ es) f (c, called, is, have) =
+      let r = called_function v k (slice_get v.functions k) c refl called in type_known m t r.0.result (is ∙ r.3) (w.functions k r.0 r.1)
+  has_known m v w t (Call' x (Struct k) _ es) f (c, called, is, have) =
+      let r = called_struct v k (slice_get v.shapes k) c refl called in
+      let lt = got_before w.structs k r.0.def (struct_here v.shapes w.structs k r.0 w.begin r.1) in
+      let le : length w.structs ≤ m = w.fit in
+      let here : k < m = omega arith in
+      type_known m t (scalar (StructTy k)) (is ∙ r.3) here
+  has_known m v w t (Array' _ es p) f (u, is, alike) = type_known m t (arr (row_length es) u) is (alike_known m v w u es f.0 f.1 alike)
+  has_known m v w t (Convert' b _ (more_of-Expr e end_of-Expr) p) f (c, is, rule, he) =
+      type_known m t (scalar b) is (conversion_known m b c (conversion_fits b c rule))
+  has_known m v w t (Complex' b _ (more_of-Expr x end_of-Expr) _ (more_of-Expr y end_of-Expr) p) f (h, is, half, hx, hy) =
+      let r = half_types b h half in type_known m t (scalar b) is (complex_known m b r.0)
+
+  alike_known : (m : ℕ) (v : Visible) → Knows m v → (u : Ty) {k : _} (es : Row_of-Expr k) → 1 ≤ row_length es → AreFilled es → types.Alike v u es →
+      StructsBefore m u.base
+  alike_known m v w u end_of-Expr le f h = absurd (omega arith)
+  alike_known m v w u (more_of-Expr e es) le f h = has_known m v w u e f.0 h.0
+
+-- What code has in scope is known.
+pub scope_known : (xs : List ℕ) (v : Visible) (g : Scope) (n : ℕ) → SameScope xs v g n → Knows (length g.structs) v
+scope_known xs v g n w = record {
+  structs = g.structs;
+  begin = w.structs;
+  ordered = w.ordered;
+  fit = omega arith;
+  variables = λ id t h. (let r : Finds g n id t = w.variables id t h in type_known (length g.structs) t r.holder.ty (sym r.type_is) r.fits.known);
+  functions = λ k s h. (let m : MayCall g k s = w.functions k s h in m.known);
+}
 
 pub values_known : (xs : List ℕ) (v : Visible) (g : Scope) (n : ℕ) → SameScope xs v g n → (t : Ty) (e : Expr) → IsFilled e → types.Has v t e →
     (size_in g e ≡ cells_for g t) × StructsBefore (length g.structs) t.base
 values_known xs v g n w t e f h =
-    (ap (cells_for g) (types_found g n t e (expression_fits xs v g n w t e f h)), expression_known xs v g n w t e f h)
+    (
+      ap (cells_for g) (types_found g n t e (expression_fits xs v g n w t e f h)),
+      has_known (length g.structs) v (scope_known xs v g n w) t e f h,
+    )

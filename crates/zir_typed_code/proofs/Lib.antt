@@ -7,3 +7,10 @@ pub mod Statements
 pub mod Tops
 pub mod Functions
 pub mod Initials
+pub mod Rising
+pub mod Numbering
+pub mod Filled
+pub mod Writing
+pub mod Forms
+pub mod FormsOfComponents
+pub mod FormsOfPrograms

@@ -22,6 +22,7 @@ use Rattle.zir_code.specs.Program.{at_top}
 use Rattle.zir_code.specs.Typing.{HolderFits}
 use Rattle.zir_code.specs.Fine.{Absent, Sole}
 use Rattle.zir_eval.specs.Opening.{top_holder, top_holders, cells_for_var}
+use Rattle.zir_flow.specs.Fitting.{Distinct}
 use Rattle.zir_sound.specs.Statements.{seen_of}
 use Rattle.zir_sound.specs.Cores.{Begins, IsTop}
 use Rattle.zir_sound.specs.Laws.{is_in}
@@ -51,6 +52,16 @@ absent_behind m structs xs i (v ∷ vs) id f h =
     (
       other_number xs v.name.id id f.0.0 h,
       absent_behind m structs (v.name.id ∷ xs) (i + cells_for_var structs v) vs id f.1 (in_more v.name.id xs id h),
+    )
+
+-- Each top variable has a number of its own.
+own_tops : (m : ℕ) (structs : List StructDef) (xs : List ℕ) (i : ℕ) (vs : List Var) → FormedVars m xs vs → Distinct (top_holders structs i vs)
+own_tops m structs xs i [] f = tt
+own_tops m structs xs i (v ∷ vs) f =
+    let here : is_in (v.name.id ∷ xs) v.name.id ≡ true = ap (λ b. b || is_in xs v.name.id) (eq-eqb v.name.id v.name.id refl) in
+    (
+      absent_behind m structs (v.name.id ∷ xs) (i + cells_for_var structs v) vs v.name.id f.1 here,
+      own_tops m structs (v.name.id ∷ xs) (i + cells_for_var structs v) vs f.1,
     )
 
 -- A number that is not in scope behind top variables is none of theirs.
@@ -149,6 +160,7 @@ top_same structs shapes vs functions funs n begins ordered f calls = record {
   ordered = ordered;
   variables = λ id t h. top_finds structs vs funs n id t (topped structs [] 0 vs id t f h);
   functions = calls;
+  own = record { tops = own_tops (length structs) structs [] 0 vs f; locals = tt; between = tt };
   numbers = λ id h. record { locals = tt; tops = absent_tops structs [] 0 vs id h };
 }
 
@@ -176,5 +188,6 @@ less_seen xs v u g n w shapes functions variables = record {
   ordered = w.ordered;
   variables = λ id t h. w.variables id t (ap (λ vs. type_in vs id) variables.1 ∙ type_front u.variables variables.0 id t h);
   functions = λ k s h. w.functions k s (get_begins u.functions v.functions k s functions h);
+  own = w.own;
   numbers = w.numbers;
 }

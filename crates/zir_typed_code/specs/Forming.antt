@@ -1,5 +1,6 @@
 -- What a well formed core is: facts of its trees that the rules of types do not state.
 use Rattle.std.specs.Prelude.{◌≡◌, ◌≤◌, ℕ, List, [], ◌∷◌, false, Option, Some, None, length}
+use Rattle.zir_tree.specs.declared.types.Ty.{Ty}
 use Rattle.zir_tree.specs.declared.types.TypeExpr.{TypeExpr}
 use Rattle.zir_tree.specs.declared.types.Field.{Field}
 use Rattle.zir_tree.specs.declared.expr.Expr.{Expr, Unit as UnitLiteral, Bit, Bool as BoolLiteral, Int, Variable, Unary', Binary', Index', Slice'}
@@ -75,6 +76,11 @@ IsKnown m t = StructsBefore m t.base
 abbrev pub KnownIfAny : ℕ → Option TypeExpr → Type 0
 KnownIfAny m None = Unit {0}
 KnownIfAny m (Some t) = IsKnown m t
+
+-- The same of a type, where there is one.
+abbrev pub KnownType : ℕ → Option Ty → Type 0
+KnownType m None = Unit {0}
+KnownType m (Some t) = StructsBefore m t.base
 
 -- A declared variable has a number that none of these in scope has, and is of a known type.
 abbrev pub FormedVar : ℕ → List ℕ → Var → Type 0
@@ -182,10 +188,12 @@ abbrev mutual
   FormedMembers m xs (more_of-Member (VarMember v) ms) = FormedVar m xs v × FormedMembers m (v.name.id ∷ xs) ms
   FormedMembers m xs (more_of-Member (Run c) ms) = FormedComp m xs c × FormedMembers m xs ms
 
--- An instance is well formed, where these are the numbers of the top variables.
+-- An instance is well formed, where these are the numbers of the top variables; what it reads and emits and its value are of known types.
 pub record FormedInstance (m : ℕ) (tops : List ℕ) (i : Instance) : Type 0 where
   pub params : FormedParams m tops i.params
   pub input : StructsBefore m i.input.base
+  pub emits : KnownType m i.emits
+  pub value : KnownType m i.value
   pub body : FormedComp m (with_params tops i.params) i.body
 
 -- Each instance is well formed.

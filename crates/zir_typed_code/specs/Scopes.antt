@@ -10,6 +10,7 @@ use Rattle.zir_code.specs.declared.scope.Signature as code
 use Rattle.zir_code.specs.Scopes.{Scope, variable}
 use Rattle.zir_code.specs.Typing.{HolderFits}
 use Rattle.zir_code.specs.Fine.{Absent, SoleIn}
+use Rattle.zir_flow.specs.Fitting.{Distinct, Apart}
 use Rattle.zir_sound.specs.Cores.{Begins}
 use Rattle.zir_sound.specs.Laws.{is_in}
 
@@ -34,11 +35,18 @@ pub record IsNew (g : Scope) (id : ℕ) : Type 0 where
   pub locals : Absent g.locals id
   pub tops : Absent g.tops id
 
+-- No two variables in scope have one number.
+pub record HaveOwn (g : Scope) : Type 0 where
+  pub tops : Distinct g.tops
+  pub locals : Distinct g.locals
+  pub between : Apart g.locals g.tops
+
 -- Code in n cells has in scope what is seen: the structs that are seen begin its own, which are in order, and it finds each variable and each
--- function; all its variables have one of these numbers.
+-- function; each of its variables has a number of its own, which is one of these.
 pub record SameScope (xs : List ℕ) (v : Visible) (g : Scope) (n : ℕ) : Type 0 where
   pub structs : Begins (defs_of v.shapes) g.structs
   pub ordered : Ordered g.structs
   pub variables : (id : ℕ) (t : Ty) → type_in v.variables id ≡ Some t → Finds g n id t
   pub functions : (k : ℕ) (s : Signature) → slice_get v.functions k ≡ Some s → MayCall g k s
+  pub own : HaveOwn g
   pub numbers : (id : ℕ) → is_in xs id ≡ false → IsNew g id

@@ -4,6 +4,7 @@
 
 ghost use Rattle.zir_typed_code.specs.Laws.{BodiesFit, ExpressionsFit, ListsFit, LocalsComeIn, ParametersComeIn, ScopesGoOn, StatementsFit, ValuesAreKnown};
 ghost use Rattle.zir_typed_code.specs.Programs.{FunctionsFit, InitialsFit, SignaturesAreFound, TopIsSame, TypesAreKnown};
+ghost use Rattle.zir_typed_code.specs.Walked.{TypedAreWellFormed};
 
 /// A typed expression has its type in code too.
 pub fn expressions_fit()
@@ -68,4 +69,9 @@ pub fn initials_fit()
 /// The types of a well formed program are known.
 pub fn types_are_known()
     ensures { TypesAreKnown }
+{}
+
+/// The core that typing makes of a program whose names are resolved is well formed.
+pub fn typed_are_well_formed()
+    ensures { TypedAreWellFormed }
 {}
