@@ -135,14 +135,23 @@ impl Frame {
     }
 
     /// Copies so many cells, one after the other.
+    #[inline(always)]
     pub fn copy(&mut self, to: usize, from: usize, n: u32)
         ensures { moved n to from self.old ≡ self.new }
     {
         if n == 1 {
             let cell = self.cell(from);
             self.put(to, cell);
-            return;
+        } else {
+            self.copy_several(to, from, n);
         }
+    }
+
+    /// The same by a loop.
+    #[inline(never)]
+    fn copy_several(&mut self, to: usize, from: usize, n: u32)
+        ensures { moved n to from self.old ≡ self.new }
+    {
         let mut to = to;
         let mut from = from;
         for _past in 0..n {

@@ -32,6 +32,7 @@ pub enum Operation {
 
 impl Change {
     /// What it makes of a cell.
+    #[inline(always)]
     pub fn apply(self, n: i64) -> i64
         ensures { result ≡ changed self n }
     {
@@ -47,6 +48,7 @@ impl Change {
 
 impl Operation {
     /// What it makes of two cells, or the number of a trap.
+    #[inline(always)]
     pub fn apply(self, a: i64, b: i64) -> Result<i64, u8>
         ensures { operated self a b ≡ result }
     {

@@ -1,7 +1,7 @@
 // Straight code over cells, nested at branches, loops and calls alone.
 
 ghost use Rattle.std.specs.Prelude.{◌≡◌};
-ghost use Rattle.zir_expr.specs.Memory.{ended};
+ghost use Rattle.zir_expr.specs.Memory.{ended, moved, place_of};
 ghost use Rattle.zir_expr.specs.Running.{go, go_all, go_fork, go_loop, go_counting, turns_in};
 ghost use Rattle.zir_expr.specs.Running.{number_to, copy_to, changed_to, operated_to, located_to, loaded_to, stored_to, complex_to};
 ghost use Rattle.zir_expr.specs.Running.{put_or_trap, parts_at, put_parts, offset_of};
@@ -94,15 +94,19 @@ pub struct Counting {
 
 /// Steps one after the other.
 #[cycle(going)]
+#[inline(always)]
 pub fn run(steps: &[Step], frame: &mut Frame, base: usize) -> Result<(), Halt>
     ensures { go_all steps.now base frame.old ≡ ended result frame.new }
 {
+    if steps.is_empty() {
+        return Ok(());
+    }
     run_each(steps, frame, base)
 }
 
-/// The same inside the loops, so that a turn costs no call.
+/// The same in one loop for all kinds of steps, so that a step costs no call.
 #[cycle(going)]
-#[inline(always)]
+#[inline(never)]
 fn run_each(steps: &[Step], frame: &mut Frame, base: usize) -> Result<(), Halt>
     ensures { go_all steps.now base frame.old ≡ ended result frame.new }
 {
@@ -114,6 +118,7 @@ fn run_each(steps: &[Step], frame: &mut Frame, base: usize) -> Result<(), Halt>
 
 /// One step.
 #[cycle(going)]
+#[inline(always)]
 fn run_one(step: &Step, frame: &mut Frame, base: usize) -> Result<(), Halt>
     ensures { go step.now base frame.old ≡ ended result frame.new }
 {
@@ -127,7 +132,7 @@ fn run_one(step: &Step, frame: &mut Frame, base: usize) -> Result<(), Halt>
             Ok(())
         }
         Step::Move(to, from, n) => {
-            frame.copy(to.index(base), from.index(base), *n);
+            move_cells(*to, *from, *n, frame, base);
             Ok(())
         }
         Step::Change(change, to, a) => {
@@ -165,6 +170,7 @@ fn run_one(step: &Step, frame: &mut Frame, base: usize) -> Result<(), Halt>
 
 /// One of the two ways of a choice.
 #[cycle(going)]
+#[inline(never)]
 fn choose(fork: &Fork, frame: &mut Frame, base: usize) -> Result<(), Halt>
     ensures { go_fork fork.now base frame.old ≡ ended result frame.new }
 {
@@ -177,19 +183,20 @@ fn choose(fork: &Fork, frame: &mut Frame, base: usize) -> Result<(), Halt>
 
 /// A loop with a test, whose turns are at most as many as ticks are left.
 #[cycle(going)]
+#[inline(never)]
 fn take_turns(turn: &Turn, frame: &mut Frame, base: usize) -> Result<(), Halt>
     ensures { go_loop turn.now base frame.old ≡ ended result frame.new }
 {
     let left = frame.left();
     for past in 0..left {
-        run_each(turn.test.as_slice(), frame, base)?;
+        run(turn.test.as_slice(), frame, base)?;
         if frame.cell(turn.cell.index(base)) == 0 {
             return Ok(());
         }
         frame.tick()?;
-        run_each(turn.body.as_slice(), frame, base)?;
+        run(turn.body.as_slice(), frame, base)?;
     }
-    run_each(turn.test.as_slice(), frame, base)?;
+    run(turn.test.as_slice(), frame, base)?;
     if frame.cell(turn.cell.index(base)) == 0 {
         Ok(())
     } else {
@@ -199,6 +206,7 @@ fn take_turns(turn: &Turn, frame: &mut Frame, base: usize) -> Result<(), Halt>
 
 /// A loop that counts.
 #[cycle(going)]
+#[inline(never)]
 fn count_turns(counting: &Counting, frame: &mut Frame, base: usize) -> Result<(), Halt>
     ensures { go_counting counting.now base frame.old ≡ ended result frame.new }
 {
@@ -208,7 +216,7 @@ fn count_turns(counting: &Counting, frame: &mut Frame, base: usize) -> Result<()
     for past in 0..turns {
         frame.tick()?;
         frame.put(at, i);
-        run_each(counting.body.as_slice(), frame, base)?;
+        run(counting.body.as_slice(), frame, base)?;
         i = Whole::ThirtyTwo.sum(i, 1);
     }
     Ok(())
@@ -221,12 +229,14 @@ fn turns_of(n: i64) -> u64
     if n <= 0 { 0 } else { n as u64 }
 }
 
+#[inline(always)]
 fn number(to: Spot, n: i64, frame: &mut Frame, base: usize)
     ensures { number_to to n base frame.old ≡ frame.new }
 {
     frame.put(to.index(base), n);
 }
 
+#[inline(always)]
 fn copy(to: Spot, from: Spot, frame: &mut Frame, base: usize)
     ensures { copy_to to from base frame.old ≡ frame.new }
 {
@@ -234,6 +244,14 @@ fn copy(to: Spot, from: Spot, frame: &mut Frame, base: usize)
     frame.put(to.index(base), n);
 }
 
+#[inline(never)]
+fn move_cells(to: Spot, from: Spot, n: u32, frame: &mut Frame, base: usize)
+    ensures { moved n (place_of base to) (place_of base from) frame.old ≡ frame.new }
+{
+    frame.copy(to.index(base), from.index(base), n);
+}
+
+#[inline(always)]
 fn apply_change(change: Change, to: Spot, a: Spot, frame: &mut Frame, base: usize)
     ensures { changed_to change to a base frame.old ≡ frame.new }
 {
@@ -241,6 +259,7 @@ fn apply_change(change: Change, to: Spot, a: Spot, frame: &mut Frame, base: usiz
     frame.put(to.index(base), n);
 }
 
+#[inline(always)]
 fn operate(
     operation: Operation,
     to: Spot,
@@ -258,6 +277,7 @@ fn operate(
 }
 
 /// A cell, or a trap.
+#[inline(always)]
 fn put_or_fail(answer: Result<i64, u8>, to: usize, at: Place, frame: &mut Frame) -> Result<(), Halt>
     ensures { put_or_trap answer to at frame.old ≡ ended result frame.new }
 {
@@ -270,6 +290,7 @@ fn put_or_fail(answer: Result<i64, u8>, to: usize, at: Place, frame: &mut Frame)
     }
 }
 
+#[inline(never)]
 fn operate_complex(
     operation: ComplexOperation,
     to: Spot,
@@ -301,6 +322,7 @@ fn put_parts_at(i: usize, parts: Parts, frame: &mut Frame)
     frame.put(i.wrapping_add(1), parts.imaginary);
 }
 
+#[inline(always)]
 fn locate(
     to: Spot,
     from: Spot,
@@ -323,6 +345,7 @@ fn locate(
 
 impl Elements {
     /// The offset of the element at an index, which is tested first, or the number of a trap.
+    #[inline(always)]
     fn offset(self, from: i64, k: i64) -> Result<i64, u8>
         ensures { offset_of from k self ≡ result }
     {
@@ -334,6 +357,7 @@ impl Elements {
     }
 }
 
+#[inline(always)]
 fn load(to: Spot, from: Spot, offset: Spot, n: u32, frame: &mut Frame, base: usize)
     ensures { loaded_to to from offset n base frame.old ≡ frame.new }
 {
@@ -341,6 +365,7 @@ fn load(to: Spot, from: Spot, offset: Spot, n: u32, frame: &mut Frame, base: usi
     frame.copy(to.index(base), at, n);
 }
 
+#[inline(never)]
 fn store(to: Spot, offset: Spot, from: Spot, n: u32, frame: &mut Frame, base: usize)
     ensures { stored_to to offset from n base frame.old ≡ frame.new }
 {

@@ -136,6 +136,7 @@ impl Whole {
     }
 
     /// What an operator computes on two numbers of this type: a cell, or the number of a trap.
+    #[inline(always)]
     pub fn operated(self, operator: Operator, a: i64, b: i64) -> Result<i64, u8>
         ensures { cell_or_trap (computed operator (base_of self) (Num a) (Num b)) ≡ result }
     {

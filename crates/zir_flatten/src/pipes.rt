@@ -5,7 +5,7 @@ ghost use Rattle.zir_tree.specs.declared.comp.Comp as comp;
 ghost use Rattle.zir_tree.specs.declared.comp.Comp.{Comp as OneComp};
 ghost use Rattle.zir_tree.specs.declared.comp.Link.{Link as Joining};
 ghost use Rattle.zir_tree.specs.declared.place.Place.{Place};
-ghost use Rattle.zir_code.specs.Types.{cells_for as size_of};
+ghost use Rattle.zir_code.specs.Types.{type_or_unit, cells_for as size_of};
 ghost use Rattle.zir_compile.specs.Names.{scope_of};
 ghost use Rattle.zir_flow.specs.Flowing as flowing;
 ghost use Rattle.zir_flow.specs.Kinds.{Setting, type_between};
@@ -15,7 +15,7 @@ ghost use Rattle.zir_flatten.specs.Making.{Flowed};
 use crate::flow::Flow;
 use crate::layouts::split;
 use crate::loops::count;
-use crate::types::{cells_or_none, copy_or_unit, first_of};
+use crate::types::{cells_or_none, first_of};
 use sqlite_items::Items;
 use std::alloc::{AllocError, Global};
 use zir_compile::numbers::{Unmade, sum};
@@ -58,7 +58,14 @@ fn sides(
 }
 
 /// A composition around the code of its sides, whose left one brings back these cells.
-pub fn piped(alloc: Global, names: &Names, d: u32, back: Items<Back>, left: Flow, right: Flow) -> Result<Flow, Unmade>
+pub fn piped(
+    alloc: Global,
+    names: &Names,
+    d: u32,
+    back: Items<Back>,
+    left: Flow,
+    right: Flow,
+) -> Result<Flow, Unmade>
     ensures { (st : Setting) (input : Ty) (link : Joining) (a b : OneComp) (p : Place) → let g = scope_of names.now in
         back ≡ flowing.back_of (assigns st.assigned a) g → Flowed st g input d a left →
         Flowed st g (type_between left.output) d b right → IfOk result (Flowed st g input d (comp.Pipe link a b p)) }

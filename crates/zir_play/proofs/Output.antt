@@ -68,7 +68,7 @@ part_after stands_for before mid now old kept xs ys finished w p = record {
     w.front ++ p.grew.0,
     p.grew.1,
     ap (λ bytes. w.front ++ bytes) p.grew.2 ∙ sym (append_assoc w.front p.grew.0 p.grew.1),
-    grew_then (stands_for before) (stands_for mid) (stands_for now) w.front p.grew.0 w.grew p.grew.3
+    grew_then (stands_for before) (stands_for mid) (stands_for now) w.front p.grew.0 w.grew p.grew.3,
   );
   spelled = spelled_then stands_for before mid old kept xs ys p.rest finished w p.spelled;
 }

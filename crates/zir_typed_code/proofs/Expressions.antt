@@ -70,8 +70,7 @@ mutual
       let m : MayCall g k r.0 = w.functions k r.0 r.1 in
       (m.made, m.found, is ∙ (r.3 ∙ sym m.result), subst (λ ts. ArgumentsFit g n ts es) (r.2 ∙ sym m.params) (arguments_fit xs v g n w c.params es f have))
   expression_fits xs v g n w t (Call' x (Struct k) _ es) f (c, called, is, have) =
-      let r = called_struct v k (slice_get v.shapes k) c refl called in
-      (
+      let r = called_struct v k (slice_get v.shapes k) c refl called in (
         r.0.def,
         struct_here v.shapes g.structs k r.0 w.structs r.1,
         is ∙ r.3,

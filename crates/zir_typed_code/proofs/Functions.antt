@@ -97,15 +97,14 @@ body_fine xs v g n w e f formed body le =
     let all : max (all_peak (inside g ps) d ss) (result_peak (scope_after_all (inside g ps) d ss) (free_after_all (inside g ps) d ss) f.body.result) ≤ n = le in
     let first = all_within (inside g ps) d ss in
     let room : d ≤ n = omega arith in
-    let inner = parameters_come xs v g n w e ps formed.params room in
-    (
+    let inner = parameters_come xs v g n w e ps formed.params room in (
       params_known g xs ps formed.params,
       room,
       statements_fit (with_params xs ps) u (inside g ps) n inner d ss formed.body.0 body.statements (omega arith),
       subst (λ t. ResultFits (scope_after_all (inside g ps) d ss) (free_after_all (inside g ps) d ss) n t f.body.result) (given_same f.result)
-      (result_fits (numbers_behind (with_params xs ps) ss) (sound.behind u ss) (scope_after_all (inside g ps) d ss) n (free_after_all (inside g ps) d ss)
-      (scopes_go_on (with_params xs ps) u (inside g ps) n inner d ss formed.body.0 body.statements (omega arith)) (result_type f.result) f.body.result
-      formed.body.1 body.result (omega arith)),
+          (result_fits (numbers_behind (with_params xs ps) ss) (sound.behind u ss) (scope_after_all (inside g ps) d ss) n (free_after_all (inside g ps) d ss)
+          (scopes_go_on (with_params xs ps) u (inside g ps) n inner d ss formed.body.0 body.statements (omega arith)) (result_type f.result) f.body.result
+          formed.body.1 body.result (omega arith)),
     )
 
 -- What is at a place of a list with one more.
@@ -219,11 +218,10 @@ functions_after core top formed structs variables (f ∷ fs) funs before n e eac
     subst (λ o. MayCallAll (at_top core.structs (tops_of core) (one_more_signature funs n o)) (before ++ cores.signature_of f ∷ [])) (sym s.0) one in
     let is : IsFunction top before f = h.0 in
     let w = part_same core top before funs (cells_of g f) is.seen formed structs calls is.is_top.shapes (same_begins is.seen.functions before is.is_top.functions_are)
-    (subst (λ us. Begins us (map sound.seen_of core.variables)) (sym is.is_top.variables_are) (subst (Begins is.variables) variables is.first)) in
-    (
+    (subst (λ us. Begins us (map sound.seen_of core.variables)) (sym is.is_top.variables_are) (subst (Begins is.variables) variables is.first)) in (
       fine_in (is_signed g f) core.structs (tops_of core) funs f (body_fine (top_numbers core) is.seen g (cells_of g f) w refl f each.0 is.body (omega arith)),
       functions_after core top formed structs variables fs (one_more_signature funs n made) (before ++ cores.signature_of f ∷ []) (suc n)
-      (longer before (cores.signature_of f) n e) each.1 s.1 here h.1,
+          (longer before (cores.signature_of f) n e) each.1 s.1 here h.1,
     )
 
 none_called : (g : Scope) → MayCallAll g []

@@ -39,8 +39,7 @@ whole_fits xs v g n d w x t e r f has le =
     let own = expression_fits xs v g n w t e f has in
     let size : size_in g e ≡ cells_for g t = ap (cells_for g) (types_found g n t e own) in
     let room : max (peak_of g e d) (storing_peak g (variable g x.id) [] d (size_in g e)) ≤ n = le in
-    let at_last : storing_peak g (variable g x.id) [] d (size_in g e) ≤ n = omega arith in
-    (
+    let at_last : storing_peak g (variable g x.id) [] d (size_in g e) ≤ n = omega arith in (
       t,
       r.holder,
       r.found,

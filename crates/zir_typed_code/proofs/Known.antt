@@ -208,8 +208,7 @@ scope_known xs v g n w = record {
 
 pub values_known : (xs : List ℕ) (v : Visible) (g : Scope) (n : ℕ) → SameScope xs v g n → (t : Ty) (e : Expr) → IsFilled e → types.Has v t e →
     (size_in g e ≡ cells_for g t) × StructsBefore (length g.structs) t.base
-values_known xs v g n w t e f h =
-    (
-      ap (cells_for g) (types_found g n t e (expression_fits xs v g n w t e f h)),
-      has_known (length g.structs) v (scope_known xs v g n w) t e f h,
-    )
+values_known xs v g n w t e f h = (
+  ap (cells_for g) (types_found g n t e (expression_fits xs v g n w t e f h)),
+  has_known (length g.structs) v (scope_known xs v g n w) t e f h,
+)

@@ -340,8 +340,7 @@ function_goes a f x h =
     let low = g.later in
     let high = l.later in
     ends RisesDecl a (programs.behind (kind.Function (length f.params)) own a b.0.seen)
-    (decl.Function (record { name = own; params = ps.0.made; result = r.0; body = b.0.made; at = f.at })) x b.2 (omega arith)
-    (
+    (decl.Function (record { name = own; params = ps.0.made; result = r.0; body = b.0.made; at = f.at })) x b.2 (omega arith) (
       ps.0.seen.next,
       omega arith,
       omega arith,
@@ -362,8 +361,7 @@ comp_function_goes a f x h =
     let low = g.later in
     let high = l.later in
     ends RisesDecl a (programs.behind kind.Component own a c.0.seen) (decl.Comp (record { name = own; params = ps.0.made; body = c.0.made; at = f.at })) x c.2
-    (omega arith)
-    (
+    (omega arith) (
       ps.0.seen.next,
       omega arith,
       omega arith,

@@ -48,18 +48,16 @@ other_number xs x id new h = ne_eqb x id (λ e. let c : true ≡ false = sym h �
 absent_behind : (m : ℕ) (structs : List StructDef) (xs : List ℕ) (i : ℕ) (vs : List Var) (id : ℕ) → FormedVars m xs vs → is_in xs id ≡ true →
     Absent (top_holders structs i vs) id
 absent_behind m structs xs i [] id f h = tt
-absent_behind m structs xs i (v ∷ vs) id f h =
-    (
-      other_number xs v.name.id id f.0.0 h,
-      absent_behind m structs (v.name.id ∷ xs) (i + cells_for_var structs v) vs id f.1 (in_more v.name.id xs id h),
-    )
+absent_behind m structs xs i (v ∷ vs) id f h = (
+  other_number xs v.name.id id f.0.0 h,
+  absent_behind m structs (v.name.id ∷ xs) (i + cells_for_var structs v) vs id f.1 (in_more v.name.id xs id h),
+)
 
 -- Each top variable has a number of its own.
 own_tops : (m : ℕ) (structs : List StructDef) (xs : List ℕ) (i : ℕ) (vs : List Var) → FormedVars m xs vs → Distinct (top_holders structs i vs)
 own_tops m structs xs i [] f = tt
 own_tops m structs xs i (v ∷ vs) f =
-    let here : is_in (v.name.id ∷ xs) v.name.id ≡ true = ap (λ b. b || is_in xs v.name.id) (eq-eqb v.name.id v.name.id refl) in
-    (
+    let here : is_in (v.name.id ∷ xs) v.name.id ≡ true = ap (λ b. b || is_in xs v.name.id) (eq-eqb v.name.id v.name.id refl) in (
       absent_behind m structs (v.name.id ∷ xs) (i + cells_for_var structs v) vs v.name.id f.1 here,
       own_tops m structs (v.name.id ∷ xs) (i + cells_for_var structs v) vs f.1,
     )
@@ -72,11 +70,10 @@ out_before xs (v ∷ vs) id h = (neither (nat_eq v.name.id id) (is_in xs id) (ou
 pub absent_tops : (structs : List StructDef) (xs : List ℕ) (i : ℕ) (vs : List Var) (id : ℕ) → is_in (with_vars xs vs) id ≡ false →
     Absent (top_holders structs i vs) id
 absent_tops structs xs i [] id h = tt
-absent_tops structs xs i (v ∷ vs) id h =
-    (
-      (neither (nat_eq v.name.id id) (is_in xs id) (out_before (v.name.id ∷ xs) vs id h)).0,
-      absent_tops structs (v.name.id ∷ xs) (i + cells_for_var structs v) vs id h,
-    )
+absent_tops structs xs i (v ∷ vs) id h = (
+  (neither (nat_eq v.name.id id) (is_in xs id) (out_before (v.name.id ∷ xs) vs id h)).0,
+  absent_tops structs (v.name.id ∷ xs) (i + cells_for_var structs v) vs id h,
+)
 
 -- A top variable among some, as code has it.
 record Topped (structs : List StructDef) (ds : List Holder) (id : ℕ) (t : Ty) : Type 0 where
