@@ -13,12 +13,12 @@ ghost use Rattle.zir_stage.specs.Standing.{given, shape_of, stage_of};
 ghost use Rattle.zir_outside.specs.Causes.{HasCause, Rose};
 ghost use Rattle.zir_outside.specs.Sinks.{Tells};
 ghost use Rattle.zir_samples.specs.Writing.{Kept, Wrote, nothing_kept};
-ghost use Rattle.zir_play.specs.Inputs.{input_of};
+ghost use Rattle.zir_reader.specs.Inputs.{input_of};
 ghost use Rattle.zir_play.specs.Performing.{Interface, Performs};
 ghost use Rattle.zir_play.specs.Runs.{Closes, Comes};
 ghost use Rattle.zir_play.specs.Turning.{Flushed, Goes, Hands, PutsFront, Turned, room_of};
 
-use crate::elements::{ElementSource, Next};
+use zir_reader::elements::{ElementSource, Next};
 use std::alloc::{AllocError, Global};
 use zir_expr::frame::Frame;
 use zir_flow::instruction::Instruction;

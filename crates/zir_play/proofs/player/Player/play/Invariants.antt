@@ -6,7 +6,7 @@ use Rattle.zir_laws.specs.Process.{Proc}
 use Rattle.zir_shapes.specs.Shapes.{Shaped}
 use Rattle.zir_stage.specs.Standing.{shape_of, stage_of}
 use Rattle.zir_outside.specs.Sinks.{Tells}
-use Rattle.zir_play.specs.Inputs.{input_of}
+use Rattle.zir_reader.specs.Inputs.{input_of}
 use Rattle.zir_play.specs.Performing.{Interface, Performs}
 use Rattle.zir_play.specs.Turning.{Goes, room_of}
 use Rattle.zir_play.proofs.player.Player.play.Given as goal

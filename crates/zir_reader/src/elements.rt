@@ -2,7 +2,7 @@
 
 ghost use Rattle.std.specs.Prelude.{ℕ, ◌≡◌, ◌≤◌, Option, length};
 ghost use Rattle.zir_outside.specs.Causes.{Rose};
-ghost use Rattle.zir_play.specs.Inputs.{Gets, Input};
+ghost use Rattle.zir_reader.specs.Inputs.{Gets, Input};
 
 /// What a source of elements answers.
 #[derive(Clone, Copy, Debug, PartialEq, Eq)]

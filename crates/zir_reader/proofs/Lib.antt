@@ -1,0 +1,4 @@
+pub mod Bits
+pub mod Listing
+pub mod Mending
+pub mod Texts
