@@ -1,4 +1,6 @@
 pub mod Bits
+pub mod Giving
+pub mod Holding
 pub mod Listing
 pub mod Mending
 pub mod Texts

@@ -89,3 +89,8 @@ Gives before now Failed = now ≡ before
 abbrev pub GivesNext : Held → Option (List ℕ) → Held → Option (List ℕ) → Given → Type 0
 GivesNext old None new left given = left ≡ None
 GivesNext old (Some bytes) new left given = (rest : List ℕ) × (left ≡ Some rest) × Gives (items_to_come old bytes) (items_to_come new rest) given
+
+-- nothing of what was to come was lost
+abbrev pub Keeps : Held → Option (List ℕ) → Held → Option (List ℕ) → Type 0
+Keeps old None new left = left ≡ None
+Keeps old (Some bytes) new left = (rest : List ℕ) × (left ≡ Some rest) × (items_to_come new rest ≡ items_to_come old bytes)

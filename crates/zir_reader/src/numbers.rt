@@ -1,8 +1,9 @@
 //! Numbers of a format, which are read out of a source one after the other.
 
-ghost use Rattle.std.specs.Prelude.{◌≡◌, ◌≤◌, ◌<◌, ◌⊎◌, length, true, false, IfOk, OnOk};
+ghost use Rattle.std.specs.Prelude.{◌≡◌, ◌≤◌, ◌<◌, ◌+◌, ◌-◌, ◌⊎◌, drop, length, slice_range, take, true, false, IfOk, OnOk};
 ghost use Rattle.zir_meaning.specs.Items.{width as width_of};
 ghost use Rattle.zir_outside.specs.Causes.{HasCause, Rose};
+ghost use Rattle.zir_outside.specs.Reads.{Reads};
 ghost use Rattle.zir_reader.specs.Numbers.{after, bytes_taken, Decides, DecidesBits, Fills, GivesNext, nothing_held};
 
 use std::alloc::{AllocError, Global};
@@ -63,6 +64,28 @@ fn first_bits(base: Base, bytes: &[u8], bit: u8) -> Front
         return Front::Nothing;
     }
     Front::Item(number_from(base, bytes, first), size)
+}
+
+// Moves the bytes from one place to another one to the front.
+fn move_front(piece: &mut [u8], at: usize, filled: usize)
+    requires order { at ≤ filled }
+    requires within { filled ≤ length piece.old }
+    ensures len { length piece.new ≡ length piece.old }
+    ensures moved { take (filled - at) piece.new ≡ slice_range piece.old at filled }
+{
+    piece.copy_within(at..filled, 0);
+}
+
+// Reads bytes behind those that are held.
+fn read_behind<S: Source>(source: &mut S, piece: &mut [u8], held: usize) -> Result<usize, Failed>
+    requires { held ≤ length piece.old }
+    ensures len { length piece.new ≡ length piece.old }
+    ensures within { IfOk result (λ n. held + n ≤ length piece.old) }
+    ensures front { take held piece.new ≡ take held piece.old }
+    ensures read { Reads (S.left source.old) (S.left source.new) (drop held piece.new) result }
+    ensures cause { HasCause (S.faults source.old) (S.faults source.new) result }
+{
+    source.read(&mut piece[held..])
 }
 
 impl Numbers {
@@ -142,10 +165,10 @@ impl Numbers {
         ensures more { OnOk result ((self.new.ended ≡ true) ⊎ (length self.old.bytes < length self.new.bytes)) }
         ensures cause { HasCause (S.faults source.old) (S.faults source.new) result }
     {
-        self.piece.copy_within(self.at..self.filled, 0);
+        move_front(&mut self.piece, self.at, self.filled);
         self.filled -= self.at;
         self.at = 0;
-        let count = source.read(&mut self.piece[self.filled..])?;
+        let count = read_behind(source, &mut self.piece, self.filled)?;
         self.filled += count;
         self.ended = count == 0;
         Ok(())
