@@ -1,4 +1,5 @@
 pub mod Bits
+pub mod Gathering
 pub mod Giving
 pub mod Holding
 pub mod Listing

@@ -1,3 +1,5 @@
 pub mod Inputs
 pub mod Memory
 pub mod Numbers
+pub mod Gathering
+pub mod Reading

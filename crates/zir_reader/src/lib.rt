@@ -4,4 +4,8 @@
 
 pub mod elements;
 pub mod memory;
+mod gatherer;
 mod numbers;
+mod reader;
+
+pub use reader::Reader;
