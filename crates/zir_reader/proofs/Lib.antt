@@ -5,3 +5,4 @@ pub mod Holding
 pub mod Listing
 pub mod Mending
 pub mod Texts
+pub mod Whole
