@@ -8,4 +8,4 @@ mod gatherer;
 mod numbers;
 mod reader;
 
-pub use reader::Reader;
+pub use reader::{Reader, SourceElements};

@@ -1,6 +1,6 @@
 // Elements in memory.
 
-ghost use Rattle.std.specs.Prelude.{◌≡◌, ◌≤◌, ◌/◌, Some, true, length, vec_len};
+ghost use Rattle.std.specs.Prelude.{◌≡◌, ◌≤◌, ◌/◌, ⊤, Some, true, length, vec_len};
 ghost use Rattle.zir_outside.specs.Causes.{Rose};
 ghost use Rattle.zir_meaning.specs.Items.{pieces};
 ghost use Rattle.zir_reader.specs.Inputs.{Gets};
@@ -66,10 +66,17 @@ impl ElementSource for MemElements {
 
     ghost faults = { faults_of };
 
+    ghost keeps = { λ _ _. ⊤ };
+
+    ghost keeps_same = { λ _. tt };
+
+    ghost keeps_on = { λ _ _ _ _ _. tt };
+
     fn next(&mut self, into: &mut [i64]) -> Next
         requires { length into.old ≡ size_of self.old }
         ensures gets { Gets (Some (left_in self.old)) (Some (left_in self.new)) into.new result }
         ensures size { size_of self.new ≡ size_of self.old }
+        ensures keeps { ⊤ }
         ensures later { faults_of self.old ≤ faults_of self.new }
         ensures cause { result ≡ Next.Failed → Rose (faults_of self.old) (faults_of self.new) }
     {

@@ -1,6 +1,7 @@
 //! Elements of bytes, which are read out of a source one after the other.
 
 ghost use Rattle.std.specs.Prelude.{ℕ, List, ◌≡◌, ◌≤◌, IfOk, length};
+ghost use Rattle.std.proofs.Common.{refl, ◌∙◌};
 ghost use Rattle.zir_meaning.specs.Elements.{numbers_in};
 ghost use Rattle.zir_outside.specs.Causes.{Rose};
 ghost use Rattle.zir_reader.specs.Inputs.{Gets};
@@ -58,5 +59,43 @@ impl Reader {
                 Given::Failed => return Next::Failed,
             }
         }
+    }
+}
+
+/// The elements that a reader reads out of a source.
+#[derive(Debug, Drop)]
+pub struct SourceElements<'a, S> {
+    reader: Reader,
+    source: &'a mut S,
+}
+
+impl<'a, S: Source> SourceElements<'a, S> {
+    ghost use Rattle.zir_reader.specs.Reading.{left_with, reader_in};
+
+    /// Reads from this source on.
+    pub fn new(reader: Reader, source: &'a mut S) -> SourceElements<'a, S>
+        ensures reader { reader_in result ≡ reader }
+        ensures source { result.source.now ≡ source.old }
+        ensures same_reference { result.source.ghost_name ≡ source.entry.ghost_name }
+    {
+        SourceElements { reader, source }
+    }
+}
+
+impl<'a, S: Source> ElementSource for SourceElements<'a, S> {
+    ghost size = { λ e. element_size e.reader };
+
+    ghost left = { λ e. left_with e.reader (S.left e.source.now) };
+
+    ghost faults = { λ e. S.faults e.source.now };
+
+    ghost keeps = { λ old new. new.source.ghost_name ≡ old.source.ghost_name };
+
+    ghost keeps_same = { λ e. refl };
+
+    ghost keeps_on = { λ one two three p q. q ∙ p };
+
+    fn next(&mut self, into: &mut [i64]) -> Next {
+        self.reader.next(self.source, into)
     }
 }
