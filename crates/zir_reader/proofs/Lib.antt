@@ -4,5 +4,6 @@ pub mod Giving
 pub mod Holding
 pub mod Listing
 pub mod Mending
+pub mod Shaping
 pub mod Texts
 pub mod Whole

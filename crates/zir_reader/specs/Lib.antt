@@ -3,3 +3,4 @@ pub mod Memory
 pub mod Numbers
 pub mod Gathering
 pub mod Reading
+pub mod Laws

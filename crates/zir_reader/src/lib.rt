@@ -9,3 +9,10 @@ mod numbers;
 mod reader;
 
 pub use reader::{Reader, SourceElements};
+
+ghost use Rattle.zir_reader.specs.Laws.{ElementsHaveTheirType};
+
+/// The elements that bytes spell have the shape of their type.
+pub fn elements_have_their_type()
+    ensures { ElementsHaveTheirType }
+{}
