@@ -77,7 +77,7 @@ items-first base bit bytes more some enough =
     let place : bit + w ≡ 8 * k + r = omega arith in
     let whole : k ≤ length bytes = omega (arith, enough) in
     let rest : drop w (drop bit all) ≡ drop r (bits_of (drop k bytes ++ more)) =
-        drop-drop w bit all ∙ ap (λ n. drop n all) place ∙ drop-bytes k r (bytes ++ more) ∙ ap (λ bs. drop r (bits_of bs)) (drop-append-le k bytes more whole) in
+    drop-drop w bit all ∙ ap (λ n. drop n all) place ∙ drop-bytes k r (bytes ++ more) ∙ ap (λ bs. drop r (bits_of bs)) (drop-append-le k bytes more whole) in
     ap (map (λ (item : Item). Some item)) (bit_items-first base (drop bit all) some long)
     ∙ ap (λ bits. Some (record { number = number_at base bits; size = w }) ∷ map (λ (item : Item). Some item) (bit_items base (drop w (drop bit all)))) front
     ∙ ap (λ bits. Some (record { number = number_at base (take w own); size = w }) ∷ map (λ (item : Item). Some item) (bit_items base bits)) rest

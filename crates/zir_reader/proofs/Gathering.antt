@@ -24,7 +24,7 @@ pushes-whole cells count start here next size z same items e whole on =
     let long : length all ≡ length cells = omega (arith, length-append (take count cells) (z ∷ []), length-take-le count cells (omega (arith, whole)), whole) in
     let yes : nat_eq (length all) (length cells) ≡ true = grind (arith, nat_tests, long) in
     let is : all ≡ set cells count same =
-        ap (λ y. take count cells ++ y ∷ []) (sym e) ∙ sym (take_more_set cells count same inside) ∙ take_all (count + 1) (set cells count same) (omega (arith, length-set cells count same, whole)) in
+    ap (λ y. take count cells ++ y ∷ []) (sym e) ∙ sym (take_more_set cells count same inside) ∙ take_all (count + 1) (set cells count same) (omega (arith, length-set cells count same, whole)) in
     ap (λ t. if t then with_element all (input_from (length cells) [] after after items) else input_from (length cells) all start after items) yes
     ∙ ap (λ a. with_element a (input_from (length cells) [] after after items)) is
     ∙ ap (λ n. with_element (set cells count same) (input_from n [] after after items)) (sym (length-set cells count same))

@@ -74,11 +74,13 @@ read-fills format base items one two last at filled n bit ended None now more mo
 read-fills format base items one two last at filled n bit ended (Some bytes) now more moved front same room read = (
   drop n bytes,
   read.rest,
-  (refl,
-  refl,
-  refl,
-  ap (λ s. slice_range s 0 (filled - at + n) ++ (if nat_eq n 0 then [] else drop n bytes)) same
-  ∙ ap (λ s. s ++ (if nat_eq n 0 then [] else drop n bytes)) (read-behind items one two at filled n bytes moved front read.front)
-  ∙ still-to-come (slice_range items at filled) bytes n (read.end (omega (arith, length-drop (filled - at) two, room))).0
-  ∙ ap (λ t. slice_range items at filled ++ (if t then [] else bytes)) (sym more)),
+  (
+    refl,
+    refl,
+    refl,
+    ap (λ s. slice_range s 0 (filled - at + n) ++ (if nat_eq n 0 then [] else drop n bytes)) same
+        ∙ ap (λ s. s ++ (if nat_eq n 0 then [] else drop n bytes)) (read-behind items one two at filled n bytes moved front read.front)
+        ∙ still-to-come (slice_range items at filled) bytes n (read.end (omega (arith, length-drop (filled - at) two, room))).0
+        ∙ ap (λ t. slice_range items at filled ++ (if t then [] else bytes)) (sym more),
+  ),
 )

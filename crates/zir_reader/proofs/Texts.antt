@@ -90,7 +90,7 @@ item-more base bytes left item more h = either (comma-or_none bytes)
   where
     either : IsUncut bytes ⊎ AtComma bytes → items_of base true (bytes ++ left) ≡ Some item ∷ items_of base true (drop item.size bytes ++ left)
     either (inl uncut) = absurd (open-no_item base bytes item more (sym (items-uncut base false bytes uncut) ∙ h))
-    either (inr at) = 
+    either (inr at) =
         let same : item_before_comma base at.front ∷ items_of base false at.rest ≡ Some item ∷ more = sym (items-comma base false at.front at.rest at.uncut) ∙ ap (items_of base false) (sym at.split) ∙ h in
         let first : item_before_comma base at.front ≡ Some item = cc same in
         let size : item.size ≡ length at.front + 1 = item-size base (length at.front + 1) (written_number (trimmed at.front)) item first in
@@ -113,15 +113,15 @@ malformed-last base bytes left uncut h = either (comma-or_none left)
     either (inl none) = (
       [],
       items-uncut base true (bytes ++ left) (uncut-append bytes left uncut none)
-      ∙ ap (λ t. if t then [] else item_before_end base (bytes ++ left) ∷ []) (no-end base bytes left h)
-      ∙ ap (λ i. i ∷ []) (no-mending base bytes left (length (bytes ++ left)) h (omega (arith, length-append bytes left))),
+          ∙ ap (λ t. if t then [] else item_before_end base (bytes ++ left) ∷ []) (no-end base bytes left h)
+          ∙ ap (λ i. i ∷ []) (no-mending base bytes left (length (bytes ++ left)) h (omega (arith, length-append bytes left))),
     )
     either (inr at) = (
       items_of base true at.rest,
       ap (λ bs. items_of base true (bytes ++ bs)) at.split
-      ∙ ap (items_of base true) (sym (append_assoc bytes at.front (44 ∷ at.rest)))
-      ∙ items-comma base true (bytes ++ at.front) at.rest (uncut-append bytes at.front uncut at.uncut)
-      ∙ ap (λ i. i ∷ items_of base true at.rest) (no-mending base bytes at.front (length (bytes ++ at.front) + 1) h (omega (arith, length-append bytes at.front))),
+          ∙ ap (items_of base true) (sym (append_assoc bytes at.front (44 ∷ at.rest)))
+          ∙ items-comma base true (bytes ++ at.front) at.rest (uncut-append bytes at.front uncut at.uncut)
+          ∙ ap (λ i. i ∷ items_of base true at.rest) (no-mending base bytes at.front (length (bytes ++ at.front) + 1) h (omega (arith, length-append bytes at.front))),
     )
 
 -- what is malformed in an open text is so whatever follows
@@ -139,9 +139,9 @@ malformed-more base bytes left more h = either (comma-or_none bytes)
         let first : item_before_comma base at.front ≡ None = cc same in (
           items_of base true (at.rest ++ left),
           ap (λ bs. items_of base true (bs ++ left)) at.split
-          ∙ ap (items_of base true) (append_assoc at.front (44 ∷ at.rest) left)
-          ∙ items-comma base true at.front (at.rest ++ left) at.uncut
-          ∙ ap (λ i. i ∷ items_of base true (at.rest ++ left)) first,
+              ∙ ap (items_of base true) (append_assoc at.front (44 ∷ at.rest) left)
+              ∙ items-comma base true at.front (at.rest ++ left) at.uncut
+              ∙ ap (λ i. i ∷ items_of base true (at.rest ++ left)) first,
         )
 
 -- what the bytes held decide in a text

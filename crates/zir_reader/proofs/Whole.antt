@@ -141,7 +141,7 @@ by-pieces ty (suc count) start items ok e kept =
     let cells : AreCells ty.base zs = subst (AreCells ty.base) (take-map (λ (i : Item). i.number) size sound) (cells-take size ty.base (numbers_of sound) kept) in
     let others : AreCells ty.base (numbers_of (sound_items rest)) = subst (λ is. AreCells ty.base (numbers_of is)) (sym behind) (subst (AreCells ty.base) (drop-map (λ (i : Item). i.number) size sound) (cells-drop size ty.base (numbers_of sound) kept)) in
     let fewer : length (sound_items rest) / size ≡ count =
-        ap (λ n. n / size) (ap length behind ∙ length-drop size sound) ∙ omega (arith, div-eq-sub-div ok.some inside, e) in
+    ap (λ n. n / size) (ap length behind ∙ length-drop size sound) ∙ omega (arith, div-eq-sub-div ok.some inside, e) in
     let element : cells_of (array_of ty.lengths ty.base zs) ≡ zs = cells-array ty.lengths ty.base zs ok.numbers all cells in
     ap (input_from size [] (told start) (told start)) (sound-split size items inside)
     ∙ enough-any size [] (told start) (told start) front rest (omega (arith, long, ok.some)) (omega (arith, long))

@@ -3,12 +3,15 @@
 #![tactic(auto)]
 
 pub mod elements;
-pub mod memory;
 mod gatherer;
+pub mod memory;
 mod numbers;
 mod reader;
 
 pub use reader::{Reader, SourceElements};
+
+#[cfg(test)]
+mod tests;
 
 ghost use Rattle.zir_reader.specs.Laws.{ElementsHaveTheirType};
 
