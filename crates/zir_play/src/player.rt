@@ -154,6 +154,7 @@ impl Player {
             (given (stage_of code.now stage.new)) result }
         ensures room { room_of self.new ≡ room_of self.old }
         ensures size { E.size elements.new ≡ E.size elements.old }
+        ensures keeps { E.keeps elements.old elements.new }
         ensures shape { shape_of stage.new ≡ shape_of stage.old }
         ensures read { IsErrOf result PlayError.Read → Rose (E.faults elements.old) (E.faults elements.new) }
         ensures write { IsErrOf result PlayError.Write → Rose (K.faults sink.old) (K.faults sink.new) }
@@ -192,6 +193,7 @@ impl Player {
         ensures few { written.new ≤ written.old + 1 }
         ensures room { room_of self.new ≡ room_of self.old }
         ensures size { E.size elements.new ≡ E.size elements.old }
+        ensures keeps { E.keeps elements.old elements.new }
         ensures shape { shape_of stage.new ≡ shape_of stage.old }
         ensures read { IsErrOf result PlayError.Read → Rose (E.faults elements.old) (E.faults elements.new) }
         ensures write { IsErrOf result PlayError.Write → Rose (K.faults sink.old) (K.faults sink.new) }
@@ -231,6 +233,7 @@ impl Player {
             written result }
         ensures room { room_of self.new ≡ room_of self.old }
         ensures size { E.size elements.new ≡ E.size elements.old }
+        ensures keeps { E.keeps elements.old elements.new }
         ensures shape { shape_of stage.new ≡ shape_of stage.old }
         ensures read { IsErrOf result PlayError.Read → Rose (E.faults elements.old) (E.faults elements.new) }
         ensures later { E.faults elements.old ≤ E.faults elements.new }
@@ -264,6 +267,7 @@ impl Player {
             (given (stage_of code.now stage.new)) result }
         ensures room { room_of self.new ≡ room_of self.old }
         ensures size { E.size elements.new ≡ E.size elements.old }
+        ensures keeps { E.keeps elements.old elements.new }
         ensures shape { shape_of stage.new ≡ shape_of stage.old }
         ensures read { IsErrOf result PlayError.Read → Rose (E.faults elements.old) (E.faults elements.new) }
         ensures write { IsErrOf result PlayError.Write → Rose (K.faults sink.old) (K.faults sink.new) }

@@ -49,7 +49,7 @@ fn drain<E: ElementSource>(
     let mut cells = Vec::new(alloc);
     let mut failed = 0;
     let mut end = Next::Failed;
-    for _past in 0..50 {
+    for _past in 0..50_usize {
         end = elements.next(&mut element);
         match end {
             Next::Element => cells.extend_from_slice(&element)?,
