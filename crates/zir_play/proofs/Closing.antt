@@ -18,7 +18,7 @@ use Rattle.zir_samples.proofs.Writing.{ending, finished-rest, output-more, unfin
 use Rattle.zir_play.specs.declared.player.Outcome.{Outcome}
 use Rattle.zir_play.specs.declared.player.PlayError.{PlayError}
 use Rattle.zir_play.specs.declared.player.PlayError.TheVariants.{Read, Write, Exhausted}
-use Rattle.zir_play.specs.Inputs.{Input}
+use Rattle.zir_reader.specs.Inputs.{Input}
 use Rattle.zir_play.specs.Performing.{Interface}
 use Rattle.zir_play.specs.Runs.{numbers_of, Played, IsFront, Broke, Ran, RanPart}
 use Rattle.zir_play.specs.Turning.{Flushed}

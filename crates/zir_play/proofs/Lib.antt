@@ -4,4 +4,3 @@ pub mod Output
 pub mod Stepping
 pub mod Closing
 pub mod Watching
-pub mod Listing

@@ -18,14 +18,14 @@ use Rattle.zir_flow.specs.declared.instruction.Instruction.{Instruction}
 use Rattle.zir_flow.specs.Stages.{Stage, Going, Giving, Needing, Ended, Failed, Gone, turned_on, handed}
 use Rattle.zir_stage.specs.Standing.{given}
 use Rattle.zir_samples.specs.Writing.{Kept, Wrote}
-use Rattle.zir_play.specs.declared.elements.Next.{Next}
-use Rattle.zir_play.specs.declared.elements.Next.TheVariants.{Element, End, Malformed, Failed as NextFailed}
+use Rattle.zir_reader.specs.declared.elements.Next.{Next}
+use Rattle.zir_reader.specs.declared.elements.Next.TheVariants.{Element, End, Malformed, Failed as NextFailed}
 use Rattle.zir_play.specs.declared.player.Finish.{Finish}
 use Rattle.zir_play.specs.declared.player.Finish.TheVariants as finishes
 use Rattle.zir_play.specs.declared.player.Outcome.{Outcome}
 use Rattle.zir_play.specs.declared.player.PlayError.{PlayError}
 use Rattle.zir_play.specs.declared.player.PlayError.TheVariants.{Read, Write, Exhausted}
-use Rattle.zir_play.specs.Inputs.{Input, input_of, HasOnly, Gets}
+use Rattle.zir_reader.specs.Inputs.{Input, input_of, HasOnly, Gets}
 use Rattle.zir_play.specs.Performing.{Interface, Performs}
 use Rattle.zir_play.specs.Runs.{numbers_of, TellsEnd, GoesOn, Played, Interrupted, BrokeOff, UsedUp}
 use Rattle.zir_play.specs.Turning.{Goes, Turned, PutsFront, Hands, EndsAs}

@@ -21,7 +21,7 @@ use Rattle.zir_play.specs.declared.player.Finish.TheVariants as finishes
 use Rattle.zir_play.specs.declared.player.Outcome.{Outcome}
 use Rattle.zir_play.specs.declared.player.PlayError.{PlayError}
 use Rattle.zir_play.specs.declared.player.PlayError.TheVariants.{Read, Write, Exhausted}
-use Rattle.zir_play.specs.Inputs.{Input, input_of}
+use Rattle.zir_reader.specs.Inputs.{Input, input_of}
 use Rattle.zir_play.specs.Performing.{Interface, Performs, Stands}
 
 -- the numbers of outputs, in order

@@ -16,9 +16,9 @@ use Rattle.zir_play.specs.declared.player.PlayError.{PlayError}
 use Rattle.zir_play.specs.declared.player.PlayError.TheVariants.{Read, Write, Exhausted}
 use Rattle.zir_play.specs.declared.player.Player.{Player}
 use Rattle.zir_play.specs.declared.player.Finish.TheVariants.{Input as InputFinish, Malformed as MalformedFinish}
-use Rattle.zir_play.specs.declared.elements.Next.{Next}
-use Rattle.zir_play.specs.declared.elements.Next.TheVariants.{Element, End, Malformed, Failed as NextFailed}
-use Rattle.zir_play.specs.Inputs.{Input, Gets}
+use Rattle.zir_reader.specs.declared.elements.Next.{Next}
+use Rattle.zir_reader.specs.declared.elements.Next.TheVariants.{Element, End, Malformed, Failed as NextFailed}
+use Rattle.zir_reader.specs.Inputs.{Input, Gets}
 use Rattle.zir_play.specs.Performing.{Interface, Performs}
 use Rattle.zir_play.specs.Runs.{numbers_of, Remains, GoesOn, Played, Broke}
 

@@ -1,8 +1,6 @@
 //! Plays an opened stage over a source of elements into a writer of samples, to its end.
 #![tactic(auto)]
 
-pub mod elements;
-pub mod memory;
 pub mod player;
 #[cfg(test)]
 mod tests;

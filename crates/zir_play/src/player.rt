@@ -13,12 +13,12 @@ ghost use Rattle.zir_stage.specs.Standing.{given, shape_of, stage_of};
 ghost use Rattle.zir_outside.specs.Causes.{HasCause, Rose};
 ghost use Rattle.zir_outside.specs.Sinks.{Tells};
 ghost use Rattle.zir_samples.specs.Writing.{Kept, Wrote, nothing_kept};
-ghost use Rattle.zir_play.specs.Inputs.{input_of};
+ghost use Rattle.zir_reader.specs.Inputs.{input_of};
 ghost use Rattle.zir_play.specs.Performing.{Interface, Performs};
 ghost use Rattle.zir_play.specs.Runs.{Closes, Comes};
 ghost use Rattle.zir_play.specs.Turning.{Flushed, Goes, Hands, PutsFront, Turned, room_of};
 
-use crate::elements::{ElementSource, Next};
+use zir_reader::elements::{ElementSource, Next};
 use std::alloc::{AllocError, Global};
 use zir_expr::frame::Frame;
 use zir_flow::instruction::Instruction;
@@ -154,6 +154,7 @@ impl Player {
             (given (stage_of code.now stage.new)) result }
         ensures room { room_of self.new ≡ room_of self.old }
         ensures size { E.size elements.new ≡ E.size elements.old }
+        ensures keeps { E.keeps elements.old elements.new }
         ensures shape { shape_of stage.new ≡ shape_of stage.old }
         ensures read { IsErrOf result PlayError.Read → Rose (E.faults elements.old) (E.faults elements.new) }
         ensures write { IsErrOf result PlayError.Write → Rose (K.faults sink.old) (K.faults sink.new) }
@@ -192,6 +193,7 @@ impl Player {
         ensures few { written.new ≤ written.old + 1 }
         ensures room { room_of self.new ≡ room_of self.old }
         ensures size { E.size elements.new ≡ E.size elements.old }
+        ensures keeps { E.keeps elements.old elements.new }
         ensures shape { shape_of stage.new ≡ shape_of stage.old }
         ensures read { IsErrOf result PlayError.Read → Rose (E.faults elements.old) (E.faults elements.new) }
         ensures write { IsErrOf result PlayError.Write → Rose (K.faults sink.old) (K.faults sink.new) }
@@ -231,6 +233,7 @@ impl Player {
             written result }
         ensures room { room_of self.new ≡ room_of self.old }
         ensures size { E.size elements.new ≡ E.size elements.old }
+        ensures keeps { E.keeps elements.old elements.new }
         ensures shape { shape_of stage.new ≡ shape_of stage.old }
         ensures read { IsErrOf result PlayError.Read → Rose (E.faults elements.old) (E.faults elements.new) }
         ensures later { E.faults elements.old ≤ E.faults elements.new }
@@ -264,6 +267,7 @@ impl Player {
             (given (stage_of code.now stage.new)) result }
         ensures room { room_of self.new ≡ room_of self.old }
         ensures size { E.size elements.new ≡ E.size elements.old }
+        ensures keeps { E.keeps elements.old elements.new }
         ensures shape { shape_of stage.new ≡ shape_of stage.old }
         ensures read { IsErrOf result PlayError.Read → Rose (E.faults elements.old) (E.faults elements.new) }
         ensures write { IsErrOf result PlayError.Write → Rose (K.faults sink.old) (K.faults sink.new) }

@@ -1,6 +1,6 @@
 ghost use Rattle.std.specs.Prelude.{◌≡◌, []};
 
-use crate::memory::MemElements;
+use zir_reader::memory::MemElements;
 use crate::player::{Finish, Outcome, PlayError, Player};
 use sqlite_items::Items;
 use std::alloc::{AllocError, Global};

@@ -126,7 +126,7 @@ sizes f w before [] = omega arith
 sizes f w before (x ∷ xs) = sizes f w (before + w) xs ∙ omega arith
 
 -- the numbers of items
-numbers : {T : Type 0} (f : T → ℤ) (w : ℕ) (xs : List T) → map (λ (item : Item). item.number) (map (λ x. record { number = f x; size = w }) xs) ≡ map f xs
+pub numbers : {T : Type 0} (f : T → ℤ) (w : ℕ) (xs : List T) → map (λ (item : Item). item.number) (map (λ x. record { number = f x; size = w }) xs) ≡ map f xs
 numbers f w [] = refl
 numbers f w (x ∷ xs) = ap (λ zs. f x ∷ zs) (numbers f w xs)
 
@@ -168,7 +168,7 @@ bit-cell Complex32 bits = tt
 bit-cell (Struct k) bits = tt
 
 -- the numbers of bits are cells of their type
-bit-cells : (base : Base) (n : ℕ) (bits : List Bool) → AreCells base (map (number_at base) (pieces n (width base) bits))
+pub bit-cells : (base : Base) (n : ℕ) (bits : List Bool) → AreCells base (map (number_at base) (pieces n (width base) bits))
 bit-cells base zero bits = tt
 bit-cells base (suc n) bits = (bit-cell base bits, bit-cells base n (drop (width base) bits))
 

@@ -80,7 +80,7 @@ SoundCells base [] = Unit {0}
 SoundCells base (item ∷ items) = SoundCell base item × SoundCells base items
 
 -- so are the items before the first malformed one
-sound-cells : (base : Base) (items : List (Option Item)) → SoundCells base items → AreCells base (map (λ item. item.number) (sound_items items))
+pub sound-cells : (base : Base) (items : List (Option Item)) → SoundCells base items → AreCells base (map (λ item. item.number) (sound_items items))
 sound-cells base [] h = tt
 sound-cells base (None ∷ items) h = tt
 sound-cells base (Some item ∷ items) h = (h.0, sound-cells base items h.1)
@@ -128,7 +128,7 @@ last-cells base false bytes = either (may_go_on base bytes)
     either false = (tt, tt)
 
 -- the items of a text are cells
-items-cells : (base : Base) (closed : Bool) (parts : List (List ℕ)) (behind : List ℕ) → SoundCells base (map (item_before_comma base) parts ++ last_items base closed behind)
+pub items-cells : (base : Base) (closed : Bool) (parts : List (List ℕ)) (behind : List ℕ) → SoundCells base (map (item_before_comma base) parts ++ last_items base closed behind)
 items-cells base closed [] behind = last-cells base closed behind
 items-cells base closed (part ∷ parts) behind = (item-cell base (length part + 1) (written_number (trimmed part)), items-cells base closed parts behind)
 

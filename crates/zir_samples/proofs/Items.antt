@@ -15,7 +15,7 @@ as_item size None = None
 as_item size (Some z) = Some (record { number = z; size = size })
 
 -- an item of at most 64 bytes
-item-short : (base : Base) (size : ℕ) (number : Option ℤ) → size ≤ 64 → item_of base size number ≡ as_item size (in_range base number)
+pub item-short : (base : Base) (size : ℕ) (number : Option ℤ) → size ≤ 64 → item_of base size number ≡ as_item size (in_range base number)
 item-short base size None h = refl
 item-short base size (Some z) h =
     let short : nat_le size 64 ≡ true = grind (arith, nat_tests) in
@@ -27,7 +27,7 @@ item-short base size (Some z) h =
     either false = refl
 
 -- no item has more than 64 bytes
-item-long : (base : Base) (size : ℕ) (number : Option ℤ) → 64 < size → item_of base size number ≡ None
+pub item-long : (base : Base) (size : ℕ) (number : Option ℤ) → 64 < size → item_of base size number ≡ None
 item-long base size None h = refl
 item-long base size (Some z) h =
     let long : nat_le size 64 ≡ false = grind (arith, nat_tests) in
@@ -39,12 +39,12 @@ item-long base size (Some z) h =
     either found false = refl
 
 -- a text without commas is all behind them
-cut-none : (bytes : List ℕ) → IsUncut bytes → cut_at_commas bytes ≡ record { before_commas = []; behind = bytes }
+pub cut-none : (bytes : List ℕ) → IsUncut bytes → cut_at_commas bytes ≡ record { before_commas = []; behind = bytes }
 cut-none [] h = refl
 cut-none (b ∷ bytes) h = ap (cut_more b) (cut-none bytes h.1) ∙ ap (λ t. if t then record { before_commas = [] ∷ []; behind = bytes } else record { before_commas = []; behind = b ∷ bytes }) h.0
 
 -- a text cut at its first comma
-cut-comma : (front rest : List ℕ) → IsUncut front → cut_at_commas (front ++ 44 ∷ rest) ≡ record { before_commas = front ∷ (cut_at_commas rest).before_commas; behind = (cut_at_commas rest).behind }
+pub cut-comma : (front rest : List ℕ) → IsUncut front → cut_at_commas (front ++ 44 ∷ rest) ≡ record { before_commas = front ∷ (cut_at_commas rest).before_commas; behind = (cut_at_commas rest).behind }
 cut-comma [] rest h = refl
 cut-comma (b ∷ front) rest h =
     let cut = cut_at_commas rest in
@@ -57,7 +57,7 @@ uncut-push [] b h e = (e, tt)
 uncut-push (x ∷ bytes) b h e = (h.0, uncut-push bytes b h.1 e)
 
 -- the items of a text without commas
-items-uncut : (base : Base) (closed : Bool) (bytes : List ℕ) → IsUncut bytes → items_of base closed bytes ≡ last_items base closed bytes
+pub items-uncut : (base : Base) (closed : Bool) (bytes : List ℕ) → IsUncut bytes → items_of base closed bytes ≡ last_items base closed bytes
 items-uncut base closed bytes h = ap (cut_items base closed) (cut-none bytes h)
 
 -- what an item in front of others reads as

@@ -55,8 +55,8 @@ fn read_numbers(base: Base, bytes: &[u8], first: usize, into: &mut [i64])
     }
 }
 
-// The number that stands from a bit on.
-fn number_from(base: Base, bytes: &[u8], at: usize) -> i64
+/// The number of this type that stands from a bit on.
+pub fn number_from(base: Base, bytes: &[u8], at: usize) -> i64
     requires stream { 0 < width_of base }
     requires near { at < 2 ^ 32 }
     requires enough { at + width_of base ≤ 8 * length bytes.now }

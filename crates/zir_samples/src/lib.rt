@@ -8,7 +8,9 @@ mod output;
 mod text;
 mod writer;
 
+pub use bits::{number_from, width};
 pub use finding::{Found, find};
+pub use text::{Front, read_item};
 pub use writer::Writer;
 
 #[cfg(test)]

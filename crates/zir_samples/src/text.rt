@@ -48,8 +48,8 @@ pub fn find_in_text(ty: &Ty, bytes: &[u8], ended: bool, into: &mut [i64]) -> Fou
     Found::Element(8 * at as u64)
 }
 
-// Reads the item at the front of a text.
-fn read_item(base: Base, bytes: &[u8], ended: bool) -> Front
+/// Reads the item at the front of a text, which is all that the input has left where it has `ended`.
+pub fn read_item(base: Base, bytes: &[u8], ended: bool) -> Front
     requires stream { 0 < width_of base }
     ensures { Reads base ended bytes.now result }
 {

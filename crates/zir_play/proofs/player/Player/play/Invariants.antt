@@ -6,7 +6,7 @@ use Rattle.zir_laws.specs.Process.{Proc}
 use Rattle.zir_shapes.specs.Shapes.{Shaped}
 use Rattle.zir_stage.specs.Standing.{shape_of, stage_of}
 use Rattle.zir_outside.specs.Sinks.{Tells}
-use Rattle.zir_play.specs.Inputs.{input_of}
+use Rattle.zir_reader.specs.Inputs.{input_of}
 use Rattle.zir_play.specs.Performing.{Interface, Performs}
 use Rattle.zir_play.specs.Turning.{Goes, room_of}
 use Rattle.zir_play.proofs.player.Player.play.Given as goal
@@ -20,6 +20,7 @@ invariant-loop-events g l = record {
   few : l.written ≤ l._events;
   room : room_of l.self ≡ room_of l.fn.self;
   size : g.E.ElementSource.size l.elements ≡ g.E.ElementSource.size l.fn.elements;
+  keeps : g.E.ElementSource.keeps l.fn.elements l.elements;
   shape : shape_of l.stage ≡ shape_of l.fn.stage;
   reads_later : g.E.ElementSource.faults l.fn.elements ≤ g.E.ElementSource.faults l.elements;
   writes_later : g.K.Sink.faults l.fn.sink ≤ g.K.Sink.faults l.sink;

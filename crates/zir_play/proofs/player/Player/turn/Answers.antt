@@ -47,3 +47,21 @@ returns-in-Some-Gone-clause-turned g c before kept i p xs tail events goes =
     let came = comes_to 18446744073709551615 c.args.code.now (stage_of c.args.code.now c.args.stage.now) (stage_of c.args.code.now c.advance.new.self) _ _ c.in-Some-Gone.field-0-is c.in-Some-Gone.ensures.came in
     subst (Played g.K.Sink.stands_for before c.args.sink.now kept c.args.writer.now i (run p xs) xs tail (g.E.ElementSource.left c.args.elements.now) (given (stage_of c.args.code.now c.advance.new.self))) (sym c.new-in-Some-Gone.ensures)
     (played_spent g.K.Sink.stands_for before kept i c.args.code.now p xs tail c.args.sink.now c.args.writer.now _ (stage_of c.args.code.now c.args.stage.now) _ _ 18446744073709551615 _ goes came)
+
+pub returns-in-None-clause-keeps : goal.returns-in-None-clause-keeps
+returns-in-None-clause-keeps g c = g.E.ElementSource.keeps_same c.args.elements.now
+
+pub returns-in-Ok-clause-keeps : goal.returns-in-Ok-clause-keeps
+returns-in-Ok-clause-keeps g c = g.E.ElementSource.keeps_same c.args.elements.now
+
+pub returns-in-Err-clause-keeps : goal.returns-in-Err-clause-keeps
+returns-in-Err-clause-keeps g c = g.E.ElementSource.keeps_same c.args.elements.now
+
+pub returns-in-Some-Ends-clause-keeps : goal.returns-in-Some-Ends-clause-keeps
+returns-in-Some-Ends-clause-keeps g c = g.E.ElementSource.keeps_same c.args.elements.now
+
+pub returns-in-Some-Traps-clause-keeps : goal.returns-in-Some-Traps-clause-keeps
+returns-in-Some-Traps-clause-keeps g c = g.E.ElementSource.keeps_same c.args.elements.now
+
+pub returns-in-Some-Gone-clause-keeps : goal.returns-in-Some-Gone-clause-keeps
+returns-in-Some-Gone-clause-keeps g c = g.E.ElementSource.keeps_same c.args.elements.now

@@ -1,9 +1,9 @@
 // Elements in memory.
 
-ghost use Rattle.std.specs.Prelude.{◌≡◌, ◌≤◌, ◌/◌, Some, true, length, vec_len};
+ghost use Rattle.std.specs.Prelude.{◌≡◌, ◌≤◌, ◌/◌, ⊤, Some, true, length, vec_len};
 ghost use Rattle.zir_outside.specs.Causes.{Rose};
 ghost use Rattle.zir_meaning.specs.Items.{pieces};
-ghost use Rattle.zir_play.specs.Inputs.{Gets};
+ghost use Rattle.zir_reader.specs.Inputs.{Gets};
 
 use crate::elements::{ElementSource, Next};
 
@@ -21,7 +21,7 @@ pub struct MemElements {
 }
 
 impl MemElements {
-    ghost use Rattle.zir_play.specs.Memory.{faults_of, left_in, size_of, tail_of};
+    ghost use Rattle.zir_reader.specs.Memory.{faults_of, left_in, size_of, tail_of};
 
     /// Gives these cells, so many as an element, and then the end of the input, or malformed input behind a place. The call of number `fails_in`, from 1, fails.
     pub fn new(cells: Vec<i64>, size: usize, malformed: Option<u64>, fails_in: u64) -> MemElements
@@ -58,7 +58,7 @@ impl MemElements {
 }
 
 impl ElementSource for MemElements {
-    ghost use Rattle.zir_play.specs.Memory.{faults_of, left_in, size_of};
+    ghost use Rattle.zir_reader.specs.Memory.{faults_of, left_in, size_of};
 
     ghost size = { size_of };
 
@@ -66,10 +66,17 @@ impl ElementSource for MemElements {
 
     ghost faults = { faults_of };
 
+    ghost keeps = { λ _ _. ⊤ };
+
+    ghost keeps_same = { λ _. tt };
+
+    ghost keeps_on = { λ _ _ _ _ _. tt };
+
     fn next(&mut self, into: &mut [i64]) -> Next
         requires { length into.old ≡ size_of self.old }
         ensures gets { Gets (Some (left_in self.old)) (Some (left_in self.new)) into.new result }
         ensures size { size_of self.new ≡ size_of self.old }
+        ensures keeps { ⊤ }
         ensures later { faults_of self.old ≤ faults_of self.new }
         ensures cause { result ≡ Next.Failed → Rose (faults_of self.old) (faults_of self.new) }
     {

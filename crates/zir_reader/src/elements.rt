@@ -2,7 +2,7 @@
 
 ghost use Rattle.std.specs.Prelude.{ℕ, ◌≡◌, ◌≤◌, Option, length};
 ghost use Rattle.zir_outside.specs.Causes.{Rose};
-ghost use Rattle.zir_play.specs.Inputs.{Gets, Input};
+ghost use Rattle.zir_reader.specs.Inputs.{Gets, Input};
 
 /// What a source of elements answers.
 #[derive(Clone, Copy, Debug, PartialEq, Eq)]
@@ -28,11 +28,21 @@ pub trait ElementSource {
     // How often it failed. This never falls.
     ghost faults: { Self → ℕ };
 
+    // It still takes them from the same place.
+    ghost keeps: { Self → Self → Type 0 };
+
+    // So it does where nothing happened.
+    ghost keeps_same: { (x : Self) → keeps x x };
+
+    // And where it does step by step.
+    ghost keeps_on: { (x y z : Self) → keeps x y → keeps y z → keeps x z };
+
     /// Puts the cells of the next element into `into`, if there is one. After `Failed` no other call comes.
     fn next(&mut self, into: &mut [i64]) -> Next
         requires { length into.old ≡ size self.old }
         ensures gets { Gets (left self.old) (left self.new) into.new result }
         ensures size { size self.new ≡ size self.old }
+        ensures keeps { keeps self.old self.new }
         ensures later { faults self.old ≤ faults self.new }
         ensures cause { result ≡ Next.Failed → Rose (faults self.old) (faults self.new) };
 }

@@ -3,8 +3,8 @@ use Rattle.std.specs.Prelude.{ℤ, List, [], ◌∷◌, Option, Some, None, ◌�
 use Rattle.zir_tree.specs.declared.value.Val.{Val}
 use Rattle.zir_meaning.specs.Elements.{Tail, Ended, Malformed as MalformedTail}
 use Rattle.zir_cells.specs.Cells.{cells_of}
-use Rattle.zir_play.specs.declared.elements.Next.{Next}
-use Rattle.zir_play.specs.declared.elements.Next.TheVariants.{Element, End, Malformed, Failed}
+use Rattle.zir_reader.specs.declared.elements.Next.{Next}
+use Rattle.zir_reader.specs.declared.elements.Next.TheVariants.{Element, End, Malformed, Failed}
 
 -- elements, each by its cells, and what follows them
 pub record Input : Type 0 where

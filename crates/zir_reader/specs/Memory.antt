@@ -2,8 +2,8 @@
 use Rattle.std.specs.Prelude.{ℕ, ◌-◌, ◌/◌, Option, Some, None, length, drop}
 use Rattle.zir_meaning.specs.Items.{pieces}
 use Rattle.zir_meaning.specs.Elements.{Tail, Ended, Malformed}
-use Rattle.zir_play.specs.declared.memory.MemElements.{MemElements}
-use Rattle.zir_play.specs.Inputs.{Input}
+use Rattle.zir_reader.specs.declared.memory.MemElements.{MemElements}
+use Rattle.zir_reader.specs.Inputs.{Input}
 
 -- what follows the elements: the end, or malformed input behind a place
 abbrev pub tail_of : Option ℕ → Tail

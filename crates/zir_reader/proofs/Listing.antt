@@ -4,9 +4,9 @@ use Rattle.std.proofs.lemmas.List.{drop-drop, take_all}
 use Rattle.std.proofs.Math.Nat.{div-eq_of_lt, div-eq-sub-div}
 use Rattle.zir_meaning.specs.Items.{pieces}
 use Rattle.zir_meaning.specs.Elements.{Tail}
-use Rattle.zir_play.specs.declared.memory.MemElements.{MemElements}
-use Rattle.zir_play.specs.Inputs.{Input, TakesFirst, HasOnly}
-use Rattle.zir_play.specs.Memory.{left_in, tail_of}
+use Rattle.zir_reader.specs.declared.memory.MemElements.{MemElements}
+use Rattle.zir_reader.specs.Inputs.{Input, TakesFirst, HasOnly}
+use Rattle.zir_reader.specs.Memory.{left_in, tail_of}
 
 -- fewer cells than an element has are none
 no_pieces : (n size : ℕ) (cells : List ℤ) → n < size → pieces (n / size) size cells ≡ []

@@ -1,7 +1,7 @@
 use Rattle.std.proofs.Common.{◌<◌, ◌≤◌, take, ap, subst, refl, ◌∙◌}
-use Rattle.zir_play.specs.Memory.{tail_of}
-use Rattle.zir_play.proofs.Listing.{has_only, takes_first, rest_is, rest_length}
-use Rattle.zir_play.proofs.memory.MemElementsElementSource.next.Goals as goal
+use Rattle.zir_reader.specs.Memory.{tail_of}
+use Rattle.zir_reader.proofs.Listing.{has_only, takes_first, rest_is, rest_length}
+use Rattle.zir_reader.proofs.memory.MemElementsElementSource.next.Goals as goal
 
 pub returns-in-None-clause-gets : goal.returns-in-None-clause-gets
 returns-in-None-clause-gets c =
