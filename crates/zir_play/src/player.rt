@@ -18,11 +18,11 @@ ghost use Rattle.zir_play.specs.Performing.{Interface, Performs};
 ghost use Rattle.zir_play.specs.Runs.{Closes, Comes};
 ghost use Rattle.zir_play.specs.Turning.{Flushed, Goes, Hands, PutsFront, Turned, room_of};
 
-use zir_reader::elements::{ElementSource, Next};
 use std::alloc::{AllocError, Global};
 use zir_expr::frame::Frame;
 use zir_flow::instruction::Instruction;
 use zir_outside::{Failed, Sink};
+use zir_reader::elements::{ElementSource, Next};
 use zir_samples::Writer;
 use zir_stage::event::{Event, Offer};
 use zir_stage::source::Source;

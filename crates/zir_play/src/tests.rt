@@ -1,6 +1,5 @@
 ghost use Rattle.std.specs.Prelude.{◌≡◌, []};
 
-use zir_reader::memory::MemElements;
 use crate::player::{Finish, Outcome, PlayError, Player};
 use sqlite_items::Items;
 use std::alloc::{AllocError, Global};
@@ -8,6 +7,7 @@ use std::test::Fail;
 use zir_expr::frame::{Frame, Spot};
 use zir_flow::instruction::Instruction;
 use zir_outside::memory::MemSink;
+use zir_reader::memory::MemElements;
 use zir_samples::Writer;
 use zir_stage::layout::Layout;
 use zir_stage::stage::Stage;
