@@ -4,10 +4,12 @@
 mod backs;
 pub mod components;
 pub mod flow;
+pub mod instances;
 mod layouts;
 mod leaves;
 mod loops;
 mod members;
 mod pipes;
 pub mod places;
+pub mod program;
 mod types;
