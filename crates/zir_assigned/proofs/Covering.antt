@@ -2,7 +2,7 @@
 use Rattle.std.specs.Prelude.{ℕ, ◌+◌, ◌<◌, List, [], ◌∷◌, ◌++◌, length, drop, Bool, true, false, ◌||◌, Result, OnOk, ◌≡◌, nat_eq, slice_index_or, refl}
 use Rattle.std.proofs.Common.{ap, sym, ◌∙◌, subst, eqb→eq, T}
 use mathlib.Core.Bool.{true≢false}
-use Rattle.std.proofs.lemmas.List.{drop_more, drop_all}
+use Rattle.std.proofs.lemmas.List.{drop_more}
 use Rattle.std.proofs.lemmas.Result.{on_ok_weaker}
 use Rattle.zir_meaning.specs.Functions.{pick}
 use Rattle.zir_meaning.specs.Store.{among}
@@ -50,16 +50,17 @@ among-without ds [] k = none (among ds k) where
 among-without ds (x ∷ xs) k =
     through (among ds x) ∙ step (among ds x) (nat_eq x k) (among ds k) (among xs k) (among (without ds xs) k)
     (λ e. ap (among ds) (same_number x k e)) (among-without ds xs k) where
-  through : (b : Bool) → among (pick b (without ds xs) (x ∷ without ds xs)) k ≡ pick b (among (without ds xs) k) (among (x ∷ without ds xs) k)
-  through true = refl
-  through false = refl
-  step : (dx xk dk ak m : Bool) → (xk ≡ true → dx ≡ dk) → m ≡ pick dk false ak → pick dx m (pick xk true m) ≡ pick dk false (pick xk true ak)
-  step true true true ak m e h = h
-  step true true false ak m e h = absurd (true≢false (e refl))
-  step true false dk ak m e h = h
-  step false true true ak m e h = absurd (true≢false (sym (e refl)))
-  step false true false ak m e h = refl
-  step false false dk ak m e h = h
+      through : (b : Bool) → among (pick b (without ds xs) (x ∷ without ds xs)) k ≡ pick b (among (without ds xs) k) (among (x ∷ without ds xs) k)
+      through true = refl
+      through false = refl
+
+      step : (dx xk dk ak m : Bool) → (xk ≡ true → dx ≡ dk) → m ≡ pick dk false ak → pick dx m (pick xk true m) ≡ pick dk false (pick xk true ak)
+      step true true true ak m e h = h
+      step true true false ak m e h = absurd (true≢false (e refl))
+      step true false dk ak m e h = h
+      step false true true ak m e h = absurd (true≢false (sym (e refl)))
+      step false true false ak m e h = refl
+      step false false dk ak m e h = h
 
 pub without-none : (xs : List ℕ) → without [] xs ≡ xs
 without-none [] = refl
@@ -96,9 +97,9 @@ adds_within ds xs ys old mid set a b = λ k.
     ∙ ap (λ c. c || among (without ds ys) k) (a k)
     ∙ or_assoc (old k) (among xs k) (among (without ds ys) k)
     ∙ ap (λ c. old k || c) (sym (among-append xs (without ds ys) k)) where
-  outside : (d m y : Bool) → pick d m (m || y) ≡ (m || pick d false y)
-  outside true m y = or_false m
-  outside false m y = refl
+      outside : (d m y : Bool) → pick d m (m || y) ≡ (m || pick d false y)
+      outside true m y = or_false m
+      outside false m y = refl
 
 -- wholes of one, two and three parts
 pub one_part : {T E : Type 0} (r : Result T E) (whole xs : List ℕ) (old new : ℕ → Bool) → whole ≡ xs → OnOk r (Adds xs old new) →

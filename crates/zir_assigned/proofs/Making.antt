@@ -1,6 +1,6 @@
 -- The sets of functions and of instances, one after the other.
-use Rattle.std.specs.Prelude.{ℕ, zero, suc, ◌+◌, ◌<◌, ◌≤◌, List, [], ◌∷◌, ◌++◌, length, drop, Bool, true, false, ◌||◌, Some, ◌≡◌, nat_eq, slice_get, slice_index_or, refl}
-use Rattle.std.proofs.Common.{ap, sym, ◌∙◌, subst, arith, add-one}
+use Rattle.std.specs.Prelude.{ℕ, zero, suc, ◌+◌, ◌<◌, ◌≤◌, List, [], ◌∷◌, ◌++◌, length, drop, Bool, true, false, ◌||◌, ◌≡◌, nat_eq, slice_index_or, refl}
+use Rattle.std.proofs.Common.{ap, sym, ◌∙◌, subst, add-one}
 use Rattle.std.proofs.Math.Dec.{eqb-suc-zero, eqb-zero-suc, eqb-suc-suc}
 use Rattle.std.proofs.lemmas.List.{drop_all, length_push}
 use Rattle.zir_tree.specs.declared.program.Function.{Function}
@@ -38,9 +38,9 @@ tells_more before sets next n ids xs tells size is filled = λ k id.
     ∙ ap (λ m. pick (nat_eq k m) (has ids id) (has_at sets k id)) (sym size)
     ∙ sym (has_at-push sets ids k id)
     ∙ ap (λ l. has_at l k id) (sym is) where
-  step : (b : Bool) (k id : ℕ) → among (pick b xs (before k)) id ≡ pick b (among xs id) (among (before k) id)
-  step true k id = refl
-  step false k id = refl
+      step : (b : Bool) (k id : ℕ) → among (pick b xs (before k)) id ≡ pick b (among xs id) (among (before k) id)
+      step true k id = refl
+      step false k id = refl
 
 size_more : (sets next : List Variables) (n : ℕ) (ids : Variables) → length sets ≡ n → next ≡ sets ++ ids ∷ [] → length next ≡ n + 1
 size_more sets next n ids size is = ap length is ∙ length_push sets ids ∙ ap (λ m. m + 1) size

@@ -42,11 +42,7 @@ fn hide(ids: &HashSet<u32>, id: u32) -> Hidden
 }
 
 /// The variable that a statement declares, if it is a declaration.
-fn declare(
-    a: &Stmt,
-    ids: &HashSet<u32>,
-    hidden: &mut Vec<Hidden>,
-) -> Result<(), AllocError>
+fn declare(a: &Stmt, ids: &HashSet<u32>, hidden: &mut Vec<Hidden>) -> Result<(), AllocError>
     ensures { OnOk result (hidden.new.items ≡ hidden.old.items ++ hidden_by (meant.declares a.now) (has ids.now)) }
 {
     if let Stmt::Var(v) = a {
@@ -250,12 +246,7 @@ impl Assigned {
     }
 
     /// What a body assigns.
-    fn body(
-        &self,
-        alloc: Global,
-        body: &Body,
-        ids: &mut HashSet<u32>,
-    ) -> Result<(), AllocError>
+    fn body(&self, alloc: Global, body: &Body, ids: &mut HashSet<u32>) -> Result<(), AllocError>
         ensures { (r : Assigning) → Agrees self.now r →
             OnOk result (Adds (meant.body_assigns r body.now) (has ids.old) (has ids.new)) }
     {
@@ -332,7 +323,12 @@ impl Assigned {
 
     /// What members assign, but for what they declare.
     #[cycle(components)]
-    fn members(&self, alloc: Global, ms: &[Member], ids: &mut HashSet<u32>) -> Result<(), AllocError>
+    fn members(
+        &self,
+        alloc: Global,
+        ms: &[Member],
+        ids: &mut HashSet<u32>,
+    ) -> Result<(), AllocError>
         ensures { (r : Assigning) → Agrees self.now r →
             OnOk result (Adds (members_then r ms.now []) (has ids.old) (has ids.new)) }
     {
