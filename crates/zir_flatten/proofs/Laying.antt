@@ -1,6 +1,6 @@
 -- Instances one after the other.
 use Rattle.std.specs.Prelude.{ℕ, zero, suc, ◌+◌, ◌<◌, ◌≤◌, List, [], ◌∷◌, ◌++◌, length, drop, Option, Some, None, Bool, true, false, ◌≡◌, nat_eq, slice_get, refl}
-use Rattle.std.proofs.Common.{ap, sym, ◌∙◌, subst, append_assoc, append-nil, arith, get_or, add-one}
+use Rattle.std.proofs.Common.{ap, sym, ◌∙◌, subst, append_assoc, append-nil, arith, get_or}
 use Rattle.std.proofs.Math.Dec.{eqb-suc-zero, eqb-zero-suc, eqb-suc-suc}
 use Rattle.std.proofs.lemmas.List.{drop_all, length-append}
 use Rattle.zir_tree.specs.declared.program.Instance.{Instance}
@@ -16,13 +16,13 @@ use Rattle.zir_flow.specs.declared.instruction.Instruction.{Instruction}
 use Rattle.zir_flow.specs.Kinds.{Entry, Setting}
 use Rattle.zir_flow.specs.Flowing.{instance_code}
 use Rattle.zir_flow.specs.Program.{one_more_entry, more_entries, top_scope}
-use Rattle.zir_flat.specs.Programs.{entry_at, one_more_in, entries_from, code_from}
+use Rattle.zir_flat.specs.Programs.{entry_at, entries_from, code_from}
 use Rattle.zir_flatten.specs.declared.places.Callee.{Callee}
 use Rattle.zir_flatten.specs.declared.places.Places.{Places}
 use Rattle.zir_flatten.specs.declared.instances.Built.{Built}
 use Rattle.zir_flatten.specs.declared.instances.Laid.{Laid}
 use Rattle.zir_flatten.specs.Callable.{IsEntry, HasEntry, Sets}
-use Rattle.zir_flatten.specs.Programs.{no_entry, none_yet, all_set, IsBuilt, AreLaid}
+use Rattle.zir_flatten.specs.Programs.{no_entry, none_yet, IsBuilt, AreLaid}
 
 -- the code and the entries of all instances are those so far and those from here on
 pub record Laying (r : Assigning) (g : Scope) (is : List Instance) (n : ℕ) (code : List Instruction) (places : Places) : Type 0 where

@@ -1,4 +1,4 @@
-use Rattle.std.proofs.Common.{◌++◌, ◌∙◌, ap, sym, subst, refl, length}
+use Rattle.std.proofs.Common.{◌∙◌, ap, sym, subst, refl, length}
 use Rattle.zir_compile.specs.Names.{scope_of}
 use Rattle.zir_flow.specs.Program.{top_scope}
 use Rattle.zir_flatten.specs.Programs.{IsBuilt}
