@@ -153,8 +153,8 @@ flowed-Pipe st g input d link a b p back value other left right made bk f s0 v0 
     let e2 = f.peak in
     let e3 = s.peak in
     let q : made.peak
-      ≡ max (d + max (cells_for g (type_or_unit (value_in st g input d a))) (cells_for g (type_or_unit (value_in st g between d b))))
-      (max (flow_peak st g input d a) (flow_peak st g between d b)) = omega arith in
+    ≡ max (d + max (cells_for g (type_or_unit (value_in st g input d a))) (cells_for g (type_or_unit (value_in st g between d b))))
+    (max (flow_peak st g input d a) (flow_peak st g between d b)) = omega arith in
     record {
       code =
           code ∙ ap (λ n. pipe_code d n back left.code.items right.code.items) v

@@ -65,11 +65,11 @@ follows-Bind st g behind input x c before made flow u free begin f j e n s k res
     let depth : made.depth ≡ max before.depth (depth_of st c) = j.depth ∙ ap (max before.depth) f.depth in
     let shape : shape_by made.layout ≡ widest (shape_by before.layout) (shape_of st c) = j.shape ∙ ap (widest (shape_by before.layout)) f.shape in
     let step : whole_of st behind input begin made rest
-      ≡ whole_by st input begin rest (with_local g d x.id w) (before.code.items ++ flow_code st g input d c) (d + cells_for g w) d (Some w) (first_of before.output (output_in st g input d c))
-      (max before.peak (max (flow_peak st g input d c) 0)) (max before.depth (depth_of st c)) (widest (shape_by before.layout) (shape_of st c)) =
-      λ i. whole_by st input begin rest (scope i) (code i) (end i) (j.at i) (value i) (output i) (peak i) (depth i) (shape i) in
+    ≡ whole_by st input begin rest (with_local g d x.id w) (before.code.items ++ flow_code st g input d c) (d + cells_for g w) d (Some w) (first_of before.output (output_in st g input d c))
+    (max before.peak (max (flow_peak st g input d c) 0)) (max before.depth (depth_of st c)) (widest (shape_by before.layout) (shape_of st c)) =
+    λ i. whole_by st input begin rest (scope i) (code i) (end i) (j.at i) (value i) (output i) (peak i) (depth i) (shape i) in
     let last : max (max before.peak (max (flow_peak st g input d c) 0)) (members_peak st (with_local g d x.id w) input (d + cells_for g w) rest)
-      ≡ max before.peak (max (flow_peak st g input d c) (members_peak st (with_local g d x.id w) input (d + cells_for g w) rest)) = omega arith in
+    ≡ max before.peak (max (flow_peak st g input d c) (members_peak st (with_local g d x.id w) input (d + cells_for g w) rest)) = omega arith in
     let deep : max (max before.depth (depth_of st c)) (members_depth st rest) ≡ max before.depth (max (depth_of st c) (members_depth st rest)) = omega arith in
     step ∙ (λ i. record {
       code = append_assoc before.code.items (flow_code st g input d c) (members_code st (with_local g d x.id w) input begin (d + cells_for g w) d w rest) i;
@@ -91,15 +91,15 @@ follows-Run st g input c before made flow end begin f j n k rest =
     let output : made.output ≡ first_of before.output (output_in st g input d c) = j.output ∙ ap (first_of before.output) f.output in
     let most : end ≡ d + cells_for g (type_or_unit v) = n ∙ ap (λ t. d + cells_for g (type_or_unit t)) f.value in
     let peak : made.peak ≡ max before.peak (max (flow_peak st g input d c) (d + cells_for g (type_or_unit v))) =
-      j.peak ∙ (λ i. max before.peak (max (f.peak i) (most i))) in
+    j.peak ∙ (λ i. max before.peak (max (f.peak i) (most i))) in
     let depth : made.depth ≡ max before.depth (depth_of st c) = j.depth ∙ ap (max before.depth) f.depth in
     let shape : shape_by made.layout ≡ widest (shape_by before.layout) (shape_of st c) = j.shape ∙ ap (widest (shape_by before.layout)) f.shape in
     let step : whole_of st g input begin made rest
-      ≡ whole_by st input begin rest g (before.code.items ++ flow_code st g input d c) d d v (first_of before.output (output_in st g input d c))
-      (max before.peak (max (flow_peak st g input d c) (d + cells_for g (type_or_unit v)))) (max before.depth (depth_of st c)) (widest (shape_by before.layout) (shape_of st c)) =
-      λ i. whole_by st input begin rest g (code i) (j.free_is i) (j.at i) (value i) (output i) (peak i) (depth i) (shape i) in
+    ≡ whole_by st input begin rest g (before.code.items ++ flow_code st g input d c) d d v (first_of before.output (output_in st g input d c))
+    (max before.peak (max (flow_peak st g input d c) (d + cells_for g (type_or_unit v)))) (max before.depth (depth_of st c)) (widest (shape_by before.layout) (shape_of st c)) =
+    λ i. whole_by st input begin rest g (code i) (j.free_is i) (j.at i) (value i) (output i) (peak i) (depth i) (shape i) in
     let last : max (max before.peak (max (flow_peak st g input d c) (d + cells_for g (type_or_unit v)))) (members_peak st g input d rest)
-      ≡ max before.peak (max (flow_peak st g input d c) (max (d + cells_for g (type_or_unit v)) (members_peak st g input d rest))) = omega arith in
+    ≡ max before.peak (max (flow_peak st g input d c) (max (d + cells_for g (type_or_unit v)) (members_peak st g input d rest))) = omega arith in
     let deep : max (max before.depth (depth_of st c)) (members_depth st rest) ≡ max before.depth (max (depth_of st c) (members_depth st rest)) = omega arith in
     step ∙ (λ i. record {
       code = append_assoc before.code.items (flow_code st g input d c) (members_code st g input begin d d (type_or_unit v) rest) i;

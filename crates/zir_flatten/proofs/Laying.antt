@@ -1,8 +1,8 @@
 -- Instances one after the other.
-use Rattle.std.specs.Prelude.{ℕ, zero, suc, ◌+◌, ◌<◌, ◌≤◌, List, [], ◌∷◌, ◌++◌, length, drop, Option, Some, None, Bool, true, false, ◌≡◌, nat_eq, slice_get, refl}
-use Rattle.std.proofs.Common.{ap, sym, ◌∙◌, subst, append_assoc, append-nil, arith, get_or}
+use Rattle.std.specs.Prelude.{ℕ, zero, suc, ◌+◌, ◌<◌, List, [], ◌∷◌, ◌++◌, length, drop, Option, Some, None, Bool, true, false, ◌≡◌, nat_eq, slice_get, refl}
+use Rattle.std.proofs.Common.{ap, sym, ◌∙◌, subst, append_assoc, arith, get_or}
 use Rattle.std.proofs.Math.Dec.{eqb-suc-zero, eqb-zero-suc, eqb-suc-suc}
-use Rattle.std.proofs.lemmas.List.{drop_all, length-append}
+use Rattle.std.proofs.lemmas.List.{length-append}
 use Rattle.zir_tree.specs.declared.program.Instance.{Instance}
 use Rattle.zir_meaning.specs.Assigned.{Assigning}
 use Rattle.zir_meaning.specs.Functions.{pick}
@@ -20,9 +20,8 @@ use Rattle.zir_flat.specs.Programs.{entry_at, entries_from, code_from}
 use Rattle.zir_flatten.specs.declared.places.Callee.{Callee}
 use Rattle.zir_flatten.specs.declared.places.Places.{Places}
 use Rattle.zir_flatten.specs.declared.instances.Built.{Built}
-use Rattle.zir_flatten.specs.declared.instances.Laid.{Laid}
 use Rattle.zir_flatten.specs.Callable.{IsEntry, HasEntry, Sets}
-use Rattle.zir_flatten.specs.Programs.{no_entry, none_yet, IsBuilt, AreLaid}
+use Rattle.zir_flatten.specs.Programs.{no_entry, none_yet, IsBuilt}
 
 -- the code and the entries of all instances are those so far and those from here on
 pub record Laying (r : Assigning) (g : Scope) (is : List Instance) (n : ℕ) (code : List Instruction) (places : Places) : Type 0 where
@@ -66,11 +65,11 @@ laying_more r g is n i code next places after built place lt at here made grown 
     let st' : Setting = record { entries = entries; assigned = r } in
     let suc_n : suc n ≡ n + 1 = omega arith in
     let long : length code + length (instance_code st g i) ≡ length next =
-      ap (λ (xs : List Instruction). length code + length xs) (sym b.code) ∙ sym (length-append code built.code.items) ∙ ap length (sym grown) in
+    ap (λ (xs : List Instruction). length code + length xs) (sym b.code) ∙ sym (length-append code built.code.items) ∙ ap length (sym grown) in
     let moved : code_from st' g (suc n) (length code + length (instance_code st g i)) rest ≡ code_from st' g (n + 1) (length next) rest =
-      λ k. code_from st' g (suc_n k) (long k) rest in
+    λ k. code_from st' g (suc_n k) (long k) rest in
     let listed : entries_from st' g (suc n) (length code + length (instance_code st g i)) rest ≡ entries_from st' g (n + 1) (length next) rest =
-      λ k. entries_from st' g (suc_n k) (long k) rest in
+    λ k. entries_from st' g (suc_n k) (long k) rest in
     let split = at_place is n i lt at in
     record {
       entries = entries;
@@ -92,16 +91,6 @@ laying_more r g is n i code next places after built place lt at here made grown 
           (λ k. more_entries entries (sym suc_n k) (sym listed k))
           ∙ ap (λ xs. more_entries l.entries n (entries_from st g n (length code) xs)) (sym split) ∙ l.entries_are;
     }
-
--- all instances
-pub laying_end : (r : Assigning) (g : Scope) (is : List Instance) (n : ℕ) (made : Laid) → length is ≤ n → Laying r g is n made.code.items made.places → AreLaid r g is made
-laying_end r g is n made le l =
-    let st : Setting = record { entries = l.entries; assigned = r } in
-    let code : made.code.items ≡ code_from (none_yet r) g 0 0 is =
-      sym (append-nil made.code.items) ∙ ap (λ xs. made.code.items ++ code_from st g n (length made.code.items) xs) (sym (drop_all n is le)) ∙ l.code_is in
-    let same : l.entries ≡ more_entries no_entry 0 (entries_from (none_yet r) g 0 0 is) =
-      ap (λ xs. more_entries l.entries n (entries_from st g n (length made.code.items) xs)) (sym (drop_all n is le)) ∙ l.entries_are in
-    record { code = code; places = subst (λ f. Sets made.places (record { entries = f; assigned = r })) same l.sets }
 
 -- where names come to stand for others inside a body, the same is in scope at the top
 pub top_same : (a b : Names) → Below a b → top_scope (scope_of b) ≡ top_scope (scope_of a)

@@ -74,7 +74,12 @@ pub fn takes(alloc: Global, names: &Names, n: u64, input: &Ty, d: u32) -> Result
         count,
     };
     Ok(Flow {
-        code: vec![in alloc; run(first), Instruction::Takes(series, 2), Instruction::Tick, Instruction::Again(2)]?,
+        code: vec![in alloc;
+            run(first),
+            Instruction::Takes(series, 2),
+            Instruction::Tick,
+            Instruction::Again(2),
+        ]?,
         value: Some(value),
         output: None,
         peak,
@@ -246,15 +251,14 @@ pub fn maps(alloc: Global, names: &Names, k: u32, input: &Ty, d: u32) -> Result<
     let output = in_order(alloc, &x.ty)?;
     let there = Spot::Local(d);
     Ok(Flow {
-        code: vec![
-            in alloc;
+        code: vec![in alloc;
             Instruction::Tick,
             Instruction::Take(d),
             Instruction::Tick,
             run(steps),
             Instruction::Tick,
             Instruction::Give(there, n),
-            Instruction::Again(6)
+            Instruction::Again(6),
         ]?,
         value: None,
         output: Some(output),
@@ -279,8 +283,7 @@ pub fn filters(alloc: Global, names: &Names, k: u32, input: &Ty, d: u32) -> Resu
     let x = names.call(alloc, k, next, end, &mut steps)?;
     let output = copy_type(alloc, input)?;
     Ok(Flow {
-        code: vec![
-            in alloc;
+        code: vec![in alloc;
             Instruction::Tick,
             Instruction::Take(d),
             Instruction::Tick,
@@ -290,7 +293,7 @@ pub fn filters(alloc: Global, names: &Names, k: u32, input: &Ty, d: u32) -> Resu
             Instruction::Give(there, n),
             Instruction::Again(7),
             Instruction::Tick,
-            Instruction::Again(9)
+            Instruction::Again(9),
         ]?,
         value: None,
         output: Some(output),
@@ -335,7 +338,11 @@ fn enter(
     let output = copy_some(alloc, &callee.emits)?;
     let layout = copy_layout(alloc, &callee.layout)?;
     Ok(Flow {
-        code: vec![in alloc; run(steps), Instruction::Tick, Instruction::Enter(callee.place, d)]?,
+        code: vec![in alloc;
+            run(steps),
+            Instruction::Tick,
+            Instruction::Enter(callee.place, d),
+        ]?,
         value,
         output,
         peak: peak.max(end),

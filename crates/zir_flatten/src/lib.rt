@@ -12,4 +12,6 @@ mod members;
 mod pipes;
 pub mod places;
 pub mod program;
+#[cfg(test)]
+mod tests;
 mod types;

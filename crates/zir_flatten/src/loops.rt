@@ -53,7 +53,11 @@ pub fn count(code: &[Instruction]) -> Result<u32, Unmade>
 }
 
 /// Code with other code before it and an instruction behind it.
-fn around(first: Vec<Instruction>, inside: Vec<Instruction>, last: Instruction) -> Result<Vec<Instruction>, AllocError>
+fn around(
+    first: Vec<Instruction>,
+    inside: Vec<Instruction>,
+    last: Instruction,
+) -> Result<Vec<Instruction>, AllocError>
     ensures { IfOk result (λ made. made.items ≡ first.items ++ (inside.items ++ last ∷ [])) }
 {
     let mut code = first;
@@ -92,7 +96,13 @@ fn ends_where_set(turning: Turning) -> bool
 }
 
 /// `while` or `until` around the code of its body, with these steps for its test.
-pub fn tested(alloc: Global, turning: Turning, steps: Vec<Step>, test: Placed, body: Flow) -> Result<Flow, Unmade>
+pub fn tested(
+    alloc: Global,
+    turning: Turning,
+    steps: Vec<Step>,
+    test: Placed,
+    body: Flow,
+) -> Result<Flow, Unmade>
     ensures { (st : Setting) (g : Scope) (input : Ty) (d : ℕ) (e : OneExpr) (c : OneComp) (p : At) →
         Coded g e d [] steps.items test → Flowed st g input d c body →
         IfOk result (Flowed st g input d (comp.While turning e c p)) }
@@ -101,11 +111,10 @@ pub fn tested(alloc: Global, turning: Turning, steps: Vec<Step>, test: Placed, b
     let onward = sum(n, 2)?;
     let back = sum(n, 3)?;
     let ends = ends_where_set(turning);
-    let first = vec![
-        in alloc;
+    let first = vec![in alloc;
         run(steps),
         Instruction::Branch(test.at, ends, onward),
-        Instruction::Tick
+        Instruction::Tick,
     ]?;
     Ok(Flow {
         code: around(first, body.code, Instruction::Again(back))?,
@@ -118,7 +127,13 @@ pub fn tested(alloc: Global, turning: Turning, steps: Vec<Step>, test: Placed, b
 }
 
 /// Adds the steps of a number of turns, which goes to the cell d.
-pub fn number_of_turns(alloc: Global, names: &Names, e: &Expr, d: u32, steps: &mut Vec<Step>) -> Result<u32, Unmade>
+pub fn number_of_turns(
+    alloc: Global,
+    names: &Names,
+    e: &Expr,
+    d: u32,
+    steps: &mut Vec<Step>,
+) -> Result<u32, Unmade>
     ensures { IfOk result (counted.Numbered (scope_of names.now) e.now d steps.old.items steps.new.items) }
 {
     let x = names.expression(alloc, e, d, steps)?;
@@ -128,7 +143,13 @@ pub fn number_of_turns(alloc: Global, names: &Names, e: &Expr, d: u32, steps: &m
 }
 
 /// `times` around the code of its body, where these steps leave the number of turns in the cell d.
-pub fn turned(alloc: Global, d: u32, steps: Vec<Step>, peak: u32, body: Flow) -> Result<Flow, Unmade>
+pub fn turned(
+    alloc: Global,
+    d: u32,
+    steps: Vec<Step>,
+    peak: u32,
+    body: Flow,
+) -> Result<Flow, Unmade>
     ensures { (st : Setting) (g : Scope) (input : Ty) (e : OneExpr) (c : OneComp) (p : At) →
         counted.Numbered g e d [] steps.items peak → Flowed st g input (d + 1) c body →
         IfOk result (Flowed st g input d (comp.Times e c p)) }
@@ -166,18 +187,23 @@ pub fn range_of(alloc: Global, names: &Names, a: &Expr, n: &Expr, d: u32) -> Res
 }
 
 /// The steps by which the index of a loop goes to the cell of its name, and on.
-fn index_steps(alloc: Global, d: u32, named: u32, one: u32, at: Place) -> Result<Vec<Step>, AllocError>
+fn index_steps(
+    alloc: Global,
+    d: u32,
+    named: u32,
+    one: u32,
+    at: Place,
+) -> Result<Vec<Step>, AllocError>
     ensures { named ≡ d + 2 → one ≡ d + 3 → IfOk result (λ steps. steps.items ≡ flowing.index_code d at) }
 {
     let index = Spot::Local(d);
     let named = Spot::Local(named);
     let one = Spot::Local(one);
     let add = Operation::Whole(Operator::Add, Whole::ThirtyTwo);
-    let steps = vec![
-        in alloc;
+    let steps = vec![in alloc;
         Step::Copy(named, index),
         Step::Number(one, 1),
-        Step::Operate(add, index, index, one, at)
+        Step::Operate(add, index, index, one, at),
     ]?;
     Ok(steps)
 }
@@ -192,12 +218,11 @@ pub fn indexed(alloc: Global, d: u32, range: Range, at: Place, body: Flow) -> Re
     let far = sum(n, 3)?;
     let next = sum(d, 1)?;
     let inner = index_steps(alloc, d, range.index, range.free, at)?;
-    let first = vec![
-        in alloc;
+    let first = vec![in alloc;
         run(range.steps),
         Instruction::Turn(next, far),
         Instruction::Tick,
-        run(inner)
+        run(inner),
     ]?;
     Ok(Flow {
         code: around(first, body.code, Instruction::Again(far))?,
@@ -234,7 +259,13 @@ fn ways(
 }
 
 /// `if` around the code of both ways, with these steps for its test.
-pub fn chosen(alloc: Global, steps: Vec<Step>, test: Placed, first: Flow, second: Flow) -> Result<Flow, Unmade>
+pub fn chosen(
+    alloc: Global,
+    steps: Vec<Step>,
+    test: Placed,
+    first: Flow,
+    second: Flow,
+) -> Result<Flow, Unmade>
     ensures { (st : Setting) (g : Scope) (input : Ty) (d : ℕ) (e : OneExpr) (a b : OneComp) (p : At) →
         Coded g e d [] steps.items test → Flowed st g input d a first → Flowed st g input d b second →
         IfOk result (Flowed st g input d (comp.If e a b p)) }

@@ -79,7 +79,14 @@ fn declare(alloc: Global, names: &mut Names, id: u32, ty: Ty, d: u32) -> Result<
 }
 
 /// A component behind the first members, whose value then stands from a cell on.
-fn joined(alloc: Global, row: Row, flow: Flow, free: u32, value: Option<Ty>, peak: u32) -> Result<Row, AllocError>
+fn joined(
+    alloc: Global,
+    row: Row,
+    flow: Flow,
+    free: u32,
+    value: Option<Ty>,
+    peak: u32,
+) -> Result<Row, AllocError>
     ensures { IfOk result (Joins row flow free value peak) }
 {
     let mut code = row.code;
@@ -126,7 +133,13 @@ pub fn followed(alloc: Global, names: &Names, flow: Flow, row: Row) -> Result<Ro
 }
 
 /// A variable of the block, which began with the cells from begin on free.
-pub fn declared(alloc: Global, names: &mut Names, v: &Var, begin: u32, row: Row) -> Result<Row, Unmade>
+pub fn declared(
+    alloc: Global,
+    names: &mut Names,
+    v: &Var,
+    begin: u32,
+    row: Row,
+) -> Result<Row, Unmade>
     ensures moved { Moved names.old names.new }
     ensures code { (st : Setting) (input : Ty) → let g = scope_of names.old in
         IfOk result (FollowsIn begin st g input (member.Var v.now) row (scope_of names.new)) }

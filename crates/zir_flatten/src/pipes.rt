@@ -58,7 +58,14 @@ fn sides(
 }
 
 /// A composition around the code of its sides, whose left one brings back these cells.
-pub fn piped(alloc: Global, names: &Names, d: u32, back: Items<Back>, left: Flow, right: Flow) -> Result<Flow, Unmade>
+pub fn piped(
+    alloc: Global,
+    names: &Names,
+    d: u32,
+    back: Items<Back>,
+    left: Flow,
+    right: Flow,
+) -> Result<Flow, Unmade>
     ensures { (st : Setting) (input : Ty) (link : Joining) (a b : OneComp) (p : Place) → let g = scope_of names.now in
         back ≡ flowing.back_of (assigns st.assigned a) g → Flowed st g input d a left →
         Flowed st g (type_or_unit left.output) d b right → IfOk result (Flowed st g input d (comp.Pipe link a b p)) }

@@ -42,7 +42,14 @@ pub fn array(alloc: Global, n: u64, ty: &Ty) -> Result<Ty, AllocError>
 pub fn in_order(alloc: Global, ty: &Extent) -> Result<Ty, AllocError>
     ensures { IfOk result (λ made. made ≡ type_at ty.now) }
 {
-    let lengths = ty.inside_out.lengths.as_slice().iter().rev().copied().collect(alloc)?;
+    let lengths = ty
+        .inside_out
+        .lengths
+        .as_slice()
+        .iter()
+        .rev()
+        .copied()
+        .collect(alloc)?;
     Ok(Ty {
         lengths: Items::from_vec(lengths),
         base: ty.inside_out.base,

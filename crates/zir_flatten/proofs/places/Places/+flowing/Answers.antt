@@ -13,15 +13,15 @@ member-returns-in_ok-flow-in-Bind-clause-code t c =
     let same = same_scope c.args.names.now c.component.new.names c.in_ok-flow-in-Bind.ensures.same in
     let flow = subst (λ g. Flowed st g c.args.input.now c.args.row.free c.in-Bind.c c.in_ok-flow-in-Bind.flow) (sym same) (c.in_ok-flow-in-Bind.ensures.code st h) in
     let made =
-      subst (λ g. IfOk c.bound.result (Follows st g c.args.input.now (Bind c.in-Bind.x c.in-Bind.c) c.args.row (scope_of c.bound.new.names))) same
-      (c.bound.ensures.code st c.args.input.now c.in-Bind.x c.in-Bind.c refl flow) in
+    subst (λ g. IfOk c.bound.result (Follows st g c.args.input.now (Bind c.in-Bind.x c.in-Bind.c) c.args.row (scope_of c.bound.new.names))) same
+    (c.bound.ensures.code st c.args.input.now c.in-Bind.x c.in-Bind.c refl flow) in
     rw c.in-Bind.is (if_ok_as _ _ c.bound.result (λ x f. f c.args.begin) made)
 
 pub members-loop-m-preserved : goal.members-loop-m-preserved
 members-loop-m-preserved t c = (
   moved_twice c.args.names.now c.loop-m.names c.member.new.names c.loop-m.invariant.0 c.in_ok-row.ensures.moved,
   λ st h. row_on st (scope_of c.member.new.names) (scope_of c.loop-m.names) c.args.input.now c.args.d c.args.ms.now c.loop-m.m-index c.m-item.result c.loop-m.row c.in_ok-row.row _ c.loop-m-test.true c.m-item.is
-  (c.in_ok-row.ensures.code st h) (c.loop-m.invariant.1 st h),
+      (c.in_ok-row.ensures.code st h) (c.loop-m.invariant.1 st h),
 )
 
 pub members-returns-clause-code : goal.members-returns-clause-code
