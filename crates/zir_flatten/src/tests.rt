@@ -69,7 +69,7 @@ fn made(alloc: Global, core: &Core) -> Result<Option<Program>, AllocError> {
 // An instruction as a letter and a number.
 fn told(instruction: &Instruction) -> (char, u32) {
     match instruction {
-        Instruction::Run(steps) => ('r', steps.len() as u32),
+        Instruction::Run(_) => ('r', 0),
         Instruction::Tick => ('t', 0),
         Instruction::Take(d) => ('T', *d),
         Instruction::Takes(..) => ('s', 0),
