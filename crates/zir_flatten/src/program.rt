@@ -54,8 +54,8 @@ impl Program {
         })
     }
 
-    /// The code of a program, where its initial values use the cells before this one. There is none where 32 bits do not
-    /// hold its numbers.
+    /// The code of a program, where its initial values use the cells before this one. There is none where 32 bits do
+    /// not hold its numbers.
     pub fn of(
         alloc: Global,
         core: &Core,
