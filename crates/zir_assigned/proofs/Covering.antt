@@ -2,7 +2,7 @@
 use Rattle.std.specs.Prelude.{ℕ, ◌+◌, ◌<◌, List, [], ◌∷◌, ◌++◌, length, drop, Bool, true, false, ◌||◌, Result, OnOk, ◌≡◌, nat_eq, slice_index_or, refl}
 use Rattle.std.proofs.Common.{ap, sym, ◌∙◌, subst, eqb→eq, T}
 use mathlib.Core.Bool.{true≢false}
-use Rattle.std.proofs.lemmas.List.{drop_more, drop_all}
+use Rattle.std.proofs.lemmas.List.{drop_more}
 use Rattle.std.proofs.lemmas.Result.{on_ok_weaker}
 use Rattle.zir_meaning.specs.Functions.{pick}
 use Rattle.zir_meaning.specs.Store.{among}
@@ -115,7 +115,7 @@ pub three_parts : {T E : Type 0} (r : Result T E) (whole xs ys zs : List ℕ) (o
 three_parts r whole xs ys zs old mid next new e a b h = two_parts r whole (xs ++ ys) zs old next new e (adds_two xs ys old mid next a b) h
 
 -- what is left of a list begins with the item at its index
-drop_item : {X : Type 0} (xs : List X) (i : ℕ) (x : X) → i < length xs → x ≡ slice_index_or xs i x → drop i xs ≡ x ∷ drop (i + 1) xs
+pub drop_item : {X : Type 0} (xs : List X) (i : ℕ) (x : X) → i < length xs → x ≡ slice_index_or xs i x → drop i xs ≡ x ∷ drop (i + 1) xs
 drop_item xs i x h is = drop_more xs i x h ∙ ap (λ y. y ∷ drop (i + 1) xs) (sym is)
 
 -- one part of a list comes in

@@ -1,6 +1,6 @@
 -- What the definitions say of loops, choices and compositions around the code of what is inside.
-use Rattle.std.specs.Prelude.{ℕ, ◌+◌, max, List, [], ◌∷◌, ◌++◌, false, Option, Some, None, ◌≡◌, refl, length}
-use Rattle.std.proofs.Common.{ap, sym, ◌∙◌, subst, arith}
+use Rattle.std.specs.Prelude.{ℕ, ◌+◌, max, List, [], ◌∷◌, ◌++◌, false, Some, None, ◌≡◌, length}
+use Rattle.std.proofs.Common.{ap, ◌∙◌, subst, arith}
 use denote.Hole.Carrier.{hidden}
 use Rattle.zir_tree.specs.declared.ident.Ident.{Ident}
 use Rattle.zir_tree.specs.declared.place.Place.{Place}
@@ -11,7 +11,6 @@ use Rattle.zir_tree.specs.declared.comp.Turning.{Turning}
 use Rattle.zir_tree.specs.declared.comp.Link.{Link}
 use Rattle.zir_tree.specs.declared.comp.Comp.{Comp, Repeat, While, Times, For, If, Pipe}
 use Rattle.zir_tree.specs.declared.comp.Comp.TheBlock.{shape-the_row-Comp-0, hidden-the_row-Comp-0}
-use Rattle.zir_expr.specs.declared.frame.Spot.{Spot}
 use Rattle.zir_expr.specs.declared.steps.Step.{Step}
 use Rattle.zir_shapes.specs.Offsets.{plain_type as plain}
 use Rattle.zir_code.specs.Scopes.{Scope}

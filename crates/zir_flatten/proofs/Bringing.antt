@@ -1,6 +1,6 @@
 -- Cells that are brought back, one variable after the other.
-use Rattle.std.specs.Prelude.{ℕ, ◌+◌, ◌<◌, ◌≤◌, List, [], ◌∷◌, ◌++◌, length, drop, ◌≡◌}
-use Rattle.std.proofs.Common.{ap, sym, ◌∙◌, append_assoc, append-nil, arith, get_or}
+use Rattle.std.specs.Prelude.{ℕ, ◌+◌, ◌<◌, ◌≤◌, List, ◌++◌, length, drop, ◌≡◌}
+use Rattle.std.proofs.Common.{ap, sym, ◌∙◌, append_assoc, append-nil, get_or}
 use Rattle.std.proofs.lemmas.List.{drop_all}
 use Rattle.zir_code.specs.declared.scope.Holder.{Holder}
 use Rattle.zir_compile.proofs.Finding.{at_place}

@@ -4,30 +4,18 @@ use Rattle.std.proofs.Common.{ap, sym, ◌∙◌, subst, append_assoc, arith, ge
 use Rattle.std.proofs.lemmas.List.{drop_all}
 use Rattle.zir_compile.proofs.Finding.{at_place}
 use Rattle.zir_tree.specs.declared.ident.Ident.{Ident}
-use Rattle.zir_tree.specs.declared.types.Base.TheVariants.{Unit as UnitTy}
 use Rattle.zir_tree.specs.declared.types.Ty.{Ty}
-use Rattle.zir_tree.specs.declared.expr.Expr.{Expr}
-use Rattle.zir_tree.specs.declared.stmt.Var.{Var as VarDecl}
 use denote.Hole.Carrier.{hidden}
 use Rattle.zir_tree.specs.declared.place.Place.{Place}
-use Rattle.zir_tree.specs.declared.comp.Comp.{Comp, Block, Row_of-Member, end_of-Member, more_of-Member}
+use Rattle.zir_tree.specs.declared.comp.Comp.{Comp, Block, Row_of-Member, end_of-Member}
 use Rattle.zir_tree.specs.declared.comp.Comp.TheBlock.{shape-the_row-Member-1, hidden-the_row-Member-1}
-use Rattle.zir_tree.specs.declared.comp.Member.{Member, Bind, Var, Run as RunMember}
-use Rattle.zir_meaning.specs.Values.{type_of}
-use Rattle.zir_shapes.specs.Offsets.{plain_type as plain}
-use Rattle.zir_expr.specs.declared.frame.Spot.TheVariants.{Local}
-use Rattle.zir_expr.specs.declared.steps.Step.{Step}
+use Rattle.zir_tree.specs.declared.comp.Member.{Member, Bind, Run as RunMember}
 use Rattle.zir_code.specs.Scopes.{Scope}
 use Rattle.zir_code.specs.Types.{type_or_unit, cells_for}
-use Rattle.zir_code.specs.Coding.{settling}
-use Rattle.zir_code.specs.Needs.{initial_peak}
-use Rattle.zir_code.specs.Peaks.{peak_of}
-use Rattle.zir_code.specs.Statements.{with_local, initial_code}
-use Rattle.zir_compile.specs.Stated.{initial_most}
+use Rattle.zir_code.specs.Statements.{with_local}
 use Rattle.zir_flow.specs.declared.instruction.Instruction.{Instruction}
-use Rattle.zir_flow.specs.declared.instruction.Instruction.TheVariants.{Run}
 use Rattle.zir_flow.specs.Kinds.{Setting, Shape, Flat, Split, first_of, value_in, output_in, members_value, members_output}
-use Rattle.zir_flow.specs.Flowing.{run_some, flow_code, members_code}
+use Rattle.zir_flow.specs.Flowing.{flow_code, members_code}
 use Rattle.zir_flow.specs.Fitting.{widest, depth_of, shape_of, members_depth, members_shape}
 use Rattle.zir_flat.specs.Needs.{flow_peak, members_peak}
 use Rattle.zir_stage.specs.Layouts.{shape_by}

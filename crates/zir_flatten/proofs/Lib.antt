@@ -1,3 +1,4 @@
 mod Around
 mod Joining
 mod Bringing
+mod Laying

@@ -1,5 +1,5 @@
 -- What the instances that may be called are to the definitions of code.
-use Rattle.std.specs.Prelude.{ℕ, List, Option, Some, None, ◌≡◌, slice_get}
+use Rattle.std.specs.Prelude.{ℕ, Option, Some, None, ◌≡◌, slice_get}
 use Rattle.zir_assigned.specs.Assigned.{Agrees}
 use Rattle.zir_flow.specs.Kinds.{Entry, Setting}
 use Rattle.zir_stage.specs.Layouts.{shape_by}

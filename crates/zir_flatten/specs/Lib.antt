@@ -2,3 +2,4 @@ pub mod Making
 pub mod Callable
 pub mod Counted
 pub mod Members
+pub mod Programs

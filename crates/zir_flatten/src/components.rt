@@ -178,8 +178,8 @@ impl Places {
         piped(alloc, names, d, back, left, right)
     }
 
-    /// A member of a block, which began with the cells from begin on free, behind those before it. What it declares comes
-    /// into scope.
+    /// A member of a block, which began with the cells from begin on free, behind those before it. What it declares
+    /// comes into scope.
     #[cycle(flowing)]
     fn member(
         &self,

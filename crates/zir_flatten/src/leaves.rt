@@ -327,8 +327,8 @@ fn enter(
     steps: Vec<Step>,
     peak: u32,
 ) -> Result<Flow, Unmade>
-    ensures { (st : Setting) (input : Ty) (f : Named) (k : ℕ) (e : Entry) (es : List OneExpr) → let g = scope_of names.now in
-        st.entries k ≡ Some e → IsEntry callee.now e → making.Readied g es d steps.items peak →
+    ensures { (st : Setting) (input : Ty) (f : Named) (k : ℕ) (e : Entry) (es : List OneExpr) →
+        let g = scope_of names.now in st.entries k ≡ Some e → IsEntry callee.now e → making.Readied g es d steps.items peak →
         IfOk result (making.Flowed st g input d (comp.Call f k es)) }
 {
     let cells = cells_or_none(names, &callee.value)?;

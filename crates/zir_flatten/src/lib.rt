@@ -4,10 +4,14 @@
 mod backs;
 pub mod components;
 pub mod flow;
+pub mod instances;
 mod layouts;
 mod leaves;
 mod loops;
 mod members;
 mod pipes;
 pub mod places;
+pub mod program;
+#[cfg(test)]
+mod tests;
 mod types;

@@ -34,8 +34,8 @@ use zir_tree::expr::{Expr, Operator};
 use zir_tree::place::Place;
 use zir_tree::types::{Base, Ty};
 
-/// The steps that leave the first index of a loop and its number of turns in cells, the cell of the index by its name, the
-/// first free cell behind it, and the first cell behind all that the steps use.
+/// The steps that leave the first index of a loop and its number of turns in cells, the cell of the index by its name,
+/// the first free cell behind it, and the first cell behind all that the steps use.
 #[derive(Drop)]
 pub struct Range {
     pub steps: Vec<Step>,

@@ -31,9 +31,9 @@ use zir_stage::layout::Layout;
 use zir_tree::stmt::Var;
 use zir_tree::types::{Base, Ty};
 
-/// The code of the first members of a block, the first free cell behind them, the cell from which on the value of the last
-/// one stands, the types of that and of their outputs, the first cell behind all that the code uses, how deep its calls
-/// go, and which memories its compositions ask for.
+/// The code of the first members of a block, the first free cell behind them, the cell from which on the value of the
+/// last one stands, the types of that and of their outputs, the first cell behind all that the code uses, how deep its
+/// calls go, and which memories its compositions ask for.
 #[derive(Drop)]
 pub struct Row {
     pub code: Vec<Instruction>,

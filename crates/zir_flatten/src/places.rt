@@ -4,8 +4,8 @@ use zir_assigned::assigned::Assigned;
 use zir_stage::layout::Layout;
 use zir_tree::types::Ty;
 
-/// An instance as calls see it: the place of its code, the types of its outputs and of its value, the cells that its body
-/// needs, how deep its calls go, and which memories its compositions ask for.
+/// An instance as calls see it: the place of its code, the types of its outputs and of its value, the cells that its
+/// body needs, how deep its calls go, and which memories its compositions ask for.
 #[derive(Drop)]
 pub struct Callee {
     pub place: u32,

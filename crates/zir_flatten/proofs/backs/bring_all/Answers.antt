@@ -1,4 +1,4 @@
-use Rattle.std.proofs.Common.{refl, arith, sym, ◌∙◌}
+use Rattle.std.proofs.Common.{refl}
 use Rattle.zir_flatten.proofs.Bringing.{bring_next, bring_end}
 use Rattle.zir_flatten.proofs.backs.bring_all.Goals as goal
 

@@ -1,4 +1,4 @@
-use Rattle.std.proofs.Common.{ℕ, List, [], Bool, drop}
+use Rattle.std.proofs.Common.{ℕ, [], Bool, drop}
 use Rattle.zir_meaning.specs.Assigned.{Assigning}
 use Rattle.zir_assigned.specs.Sets.{Adds, has, uncovered}
 use Rattle.zir_assigned.specs.Assigned.{Agrees, members_then}

@@ -1,4 +1,4 @@
-use Rattle.std.proofs.Common.{sym, subst, refl, ◌≡◌, IfOk}
+use Rattle.std.proofs.Common.{sym, subst, refl, IfOk}
 use Rattle.zir_compile.specs.Names.{scope_of}
 use Rattle.zir_compile.proofs.Rows.{moved_twice, same_scope}
 use Rattle.zir_flatten.specs.Making.{Flowed}
