@@ -47,8 +47,3 @@ members_then r (m ∷ ms) last = member_assigns r m ++ without (member_declares 
 abbrev pub Opens : Assigning → List Stmt → (ℕ → Bool) → (ℕ → Bool) → List Hidden → Type 0
 Opens r ss old new hidden =
     (ids : List ℕ) (set : ℕ → Bool) → Adds ids new set → Adds (all_assign r ss ids) old (uncovered hidden set)
-
--- the same for members
-abbrev pub MembersOpen : Assigning → List Member → (ℕ → Bool) → (ℕ → Bool) → List Hidden → Type 0
-MembersOpen r ms old new hidden =
-    (ids : List ℕ) (set : ℕ → Bool) → Adds ids new set → Adds (members_then r ms ids) old (uncovered hidden set)

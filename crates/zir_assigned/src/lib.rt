@@ -3,3 +3,5 @@
 
 pub mod assigned;
 pub mod sets;
+#[cfg(test)]
+mod tests;
