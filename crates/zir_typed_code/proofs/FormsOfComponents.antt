@@ -39,36 +39,11 @@ use Rattle.zir_sound.proofs.Found.{function_place}
 use Rattle.zir_sound.proofs.Statements.{do_body_sound}
 use Rattle.zir_typed_code.specs.Forming.{IsFilled, AllFilled, KnownType, FormedVar, FormedParams, FormedBody, FormedComp, FormedMembers, FormedInstance}
 use Rattle.zir_typed_code.specs.Forming.{FilledReturn, FormedStmt, FormedAll, FormedInstances, numbers_after, with_params}
-use Rattle.zir_typed_code.proofs.Known.{has_known, type_known}
+use Rattle.zir_typed_code.proofs.KnownBodies.{body_known}
 use Rattle.zir_typed_code.proofs.Rising.{RisesComp, RisesMember, RisesMembers, Clear, clear_part, clear_more}
 use Rattle.zir_typed_code.proofs.Filled.{expr_fills, list_fills}
 use Rattle.zir_typed_code.proofs.Writing.{AllSeen, AllTypes, Sees, VarForms, knows, results_known, sees_more, types_more, typed_known, var_forms}
 use Rattle.zir_typed_code.proofs.Forms.{do_body_forms}
-
--- What is seen behind statements of known types.
-sees_behind : (m : ℕ) (xs : List ℕ) (g : Visible) (ss : List Stmt) → Sees m g → FormedAll m xs ss → Sees m (behind g ss)
-sees_behind m xs g [] w h = w
-sees_behind m xs g (s ∷ ss) w h =
-    sees_behind m (numbers_after xs s) (declare (brought s) g) ss (sees_more m g (brought s) w (brought_known m xs s h.0)) h.1
-  where
-    brought_known : (m : ℕ) (xs : List ℕ) (s : Stmt) → FormedStmt m xs s → AllSeen m (brought s)
-    brought_known m xs (VarStmt v) h = (h.1, tt)
-    brought_known m xs (Assign x steps e) h = tt
-    brought_known m xs (CallStmt f k es) h = tt
-    brought_known m xs (Error text p) h = tt
-    brought_known m xs (IfStmt' e _ us p) h = tt
-    brought_known m xs (IfElse' e _ us _ vs p) h = tt
-    brought_known m xs (WhileStmt' e _ us p) h = tt
-    brought_known m xs (ForStmt' x a n _ us p) h = tt
-
-returns_known : (m : ℕ) (g : Visible) (t : Ty) (r : Option ReturnStmt) → Sees m g → FilledReturn r → Returns g t r → StructsBefore m t.base
-returns_known m g t None w f h = type_known m t (scalar UnitTy) h tt
-returns_known m g t (Some r) w f h = has_known m g (knows m g w) t r.value f h
-
--- The type of a body's value.
-body_known : (m : ℕ) (xs : List ℕ) (g : Visible) (t : Ty) (b : Body) → Sees m g → FormedBody m xs b → IsBody g t b → StructsBefore m t.base
-body_known m xs g t b w f h =
-    returns_known m (behind g b.statements) t b.result (sees_behind m xs g b.statements w f.0) f.1 h.result
 
 -- What was reached is well formed, and so are the instances.
 pub record Reaches (m : ℕ) (tops xs : List ℕ) (r : Components.Reached) : Type 0 where
@@ -153,15 +128,15 @@ behind_one_more xs (Var v ∷ ms) d = behind_one_more (v.name.id ∷ xs) ms d
 behind_one_more xs (Run c ∷ ms) d = behind_one_more xs ms d
 
 -- Types that are emitted.
-emitted_known : (m : ℕ) (o : Option Ty) → KnownType m o → AllTypes m (Components.emitted o)
+pub emitted_known : (m : ℕ) (o : Option Ty) → KnownType m o → AllTypes m (Components.emitted o)
 emitted_known m None h = tt
 emitted_known m (Some t) h = (h, tt)
 
-first_known : (m : ℕ) (ts : List Ty) → AllTypes m ts → KnownType m (Components.first_of ts)
+pub first_known : (m : ℕ) (ts : List Ty) → AllTypes m ts → KnownType m (Components.first_of ts)
 first_known m [] h = tt
 first_known m (t ∷ ts) h = h.0
 
-link_known : (m : ℕ) (o : Option Ty) → KnownType m o → StructsBefore m (Components.link_type o).base
+pub link_known : (m : ℕ) (o : Option Ty) → KnownType m o → StructsBefore m (Components.link_type o).base
 link_known m None h = tt
 link_known m (Some t) h = h
 
@@ -318,7 +293,7 @@ mutual
   comp_forms m tops xs mk g n a (Do b p) is r low high all w clear up known well h =
       let t = first_fine (do_body g b) (Components.do_of p is) r h in
       let f : FormedBody m xs t.0.what = do_body_forms m xs g low high b t.0 w.fit clear up t.1 in
-      reaches m tops xs (Do t.0.what p) None (Some t.0.ty) is r well f tt (body_known m xs g t.0.ty t.0.what w f (do_body_sound g b t.0 t.1))
+      reaches m tops xs (Do t.0.what p) None (Some t.0.ty) is r well f tt (body_known m xs g t.0.ty t.0.what (knows m g w) f (do_body_sound g b t.0 t.1))
       (same_fine (Components.reached (Do t.0.what p) None (Some t.0.ty) is) r t.2)
   comp_forms m tops xs mk g n a (Repeat' _ (more_of-Comp c end_of-Comp) p) is r low high all w clear up known well h =
       let s = first_fine (Components.comp mk g n a c is) (Components.repeat_of p) r h in

@@ -43,7 +43,7 @@ use Rattle.zir_typed_code.specs.Forming.{KnownIfAny, FilledReturn, FormedAll, Fo
 use Rattle.zir_typed_code.specs.Scopes.{MayCall, SameScope}
 use Rattle.zir_typed_code.specs.Programs.{AllSigned, IsSigned, SignedAt, tops_of}
 use Rattle.zir_typed_code.proofs.Expressions.{expression_fits}
-use Rattle.zir_typed_code.proofs.Coming.{parameters_come}
+use Rattle.zir_typed_code.proofs.Coming.{parameters_come, params_known}
 use Rattle.zir_typed_code.proofs.Statements.{statements_fit, scopes_go_on}
 use Rattle.zir_typed_code.proofs.Tops.{MayCallAll, top_same, less_seen}
 
@@ -64,10 +64,6 @@ all_within g d (s ∷ ss) =
     let one = free_within g d s in
     let more = all_within (scope_after g d s) (free_after g d s) ss in
     omega arith
-
-params_known : (g : Scope) (xs : List ℕ) (ps : List Field) → FormedParams (length g.structs) xs ps → ParametersKnown g ps
-params_known g xs [] f = tt
-params_known g xs (p ∷ ps) f = (f.1, params_known g (p.name.id ∷ xs) ps f.2)
 
 result_fits : (xs : List ℕ) (v : Visible) (g : Scope) (n d : ℕ) → SameScope xs v g n → (t : Ty) (r : Option Return) → FilledReturn r → Returns v t r →
     result_peak g d r ≤ n → ResultFits g d n t r

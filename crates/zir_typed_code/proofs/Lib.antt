@@ -12,5 +12,7 @@ pub mod Numbering
 pub mod Filled
 pub mod Writing
 pub mod Forms
+pub mod KnownBodies
 pub mod FormsOfComponents
+pub mod KnownComponents
 pub mod FormsOfPrograms

@@ -2,7 +2,8 @@
 //! wherever code has in scope what they see.
 #![tactic(auto)]
 
-ghost use Rattle.zir_typed_code.specs.Laws.{BodiesFit, ExpressionsFit, ListsFit, LocalsComeIn, ParametersComeIn, ScopesGoOn, StatementsFit, ValuesAreKnown};
+ghost use Rattle.zir_typed_code.specs.Laws.{BodiesFit, ComponentsAreKnown, ExpressionsFit, ListsFit, LocalsComeIn, ParametersAreKnown};
+ghost use Rattle.zir_typed_code.specs.Laws.{ParametersComeIn, ScopesGoOn, StatementsFit, ValuesAreKnown};
 ghost use Rattle.zir_typed_code.specs.Programs.{FunctionsFit, InitialsFit, SignaturesAreFound, TopIsSame, TypesAreKnown};
 ghost use Rattle.zir_typed_code.specs.Walked.{TypedAreWellFormed};
 
@@ -29,6 +30,16 @@ pub fn locals_come_in()
 /// Parameters come into scope on both sides.
 pub fn parameters_come_in()
     ensures { ParametersComeIn }
+{}
+
+/// The parameters of a well formed function or instance are of known types.
+pub fn parameters_are_known()
+    ensures { ParametersAreKnown }
+{}
+
+/// What a typed component emits, and its value, are of known types.
+pub fn components_are_known()
+    ensures { ComponentsAreKnown }
 {}
 
 /// Typed statements are what code asks for.
