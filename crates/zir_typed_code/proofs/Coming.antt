@@ -1,19 +1,18 @@
 -- Names come into scope on both sides.
-use Rattle.std.specs.Prelude.{◌≡◌, refl, ◌≤◌, ◌+◌, ◌⊎◌, ℕ, List, [], ◌∷◌, ◌++◌, map, Bool, true, false, ◌||◌, if◌then◌else◌, nat_eq, Option, Some, None, slice_get, length}
+use Rattle.std.specs.Prelude.{◌≡◌, refl, ◌≤◌, ◌+◌, ◌⊎◌, ℕ, List, [], ◌∷◌, ◌++◌, map, Bool, true, false, ◌||◌, if◌then◌else◌, nat_eq, Option, Some, None, length}
 use Rattle.std.proofs.Common.{ap, ◌∙◌, sym, subst, arith, inl, inr}
 use Rattle.std.proofs.lemmas.Bool.{eqb-true, eqb-false, ne_eqb}
 use Rattle.std.proofs.lemmas.List.{append-nil, append_assoc}
 use Rattle.zir_tree.specs.declared.types.Ty.{Ty}
 use Rattle.zir_tree.specs.declared.types.Field.{Field}
 use Rattle.zir_types.specs.declared.scope.Seen.{Seen}
-use Rattle.zir_types.specs.declared.scope.Signature.{Signature}
 use Rattle.zir_types.specs.Scope.{Visible, declare, type_in}
 use Rattle.zir_types.specs.Scope.{variable as seen}
 use Rattle.zir_meaning.specs.Values.{type_of}
 use Rattle.zir_shapes.specs.Shapes.{StructsBefore}
 use Rattle.zir_expr.specs.declared.frame.Spot.TheVariants.{Local}
 use Rattle.zir_code.specs.declared.scope.Holder.{Holder}
-use Rattle.zir_code.specs.Scopes.{Scope, found_among, variable}
+use Rattle.zir_code.specs.Scopes.{Scope, found_among}
 use Rattle.zir_code.specs.Types.{cells_for}
 use Rattle.zir_code.specs.Fine.{Absent, Sole, SoleIn}
 use Rattle.zir_code.specs.Statements.{with_local}

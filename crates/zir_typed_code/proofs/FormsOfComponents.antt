@@ -1,5 +1,5 @@
 -- What the walk of components makes is well formed.
-use Rattle.std.specs.Prelude.{◌≡◌, refl, ◌≤◌, ◌<◌, ◌+◌, ℕ, suc, List, [], ◌∷◌, ◌++◌, length, Bool, true, false, ◌&&◌, not, nat_eq, nat_le, if◌then◌else◌, Option, Some, None}
+use Rattle.std.specs.Prelude.{◌≡◌, refl, ◌+◌, ℕ, suc, List, [], ◌∷◌, ◌++◌, length, Bool, true, false, ◌&&◌, not, nat_eq, nat_le, if◌then◌else◌, Option, Some, None}
 use Rattle.std.proofs.Common.{ap, ◌∙◌, sym, subst, arith}
 use denote.Hole.Carrier.{hidden}
 use Rattle.zir_tree.specs.declared.place.Place.{Place}
@@ -8,10 +8,6 @@ use Rattle.zir_tree.specs.declared.types.Base.{Base}
 use Rattle.zir_tree.specs.declared.types.Base.TheVariants.{Unit as UnitTy, Bool as BoolTy, Int32}
 use Rattle.zir_tree.specs.declared.types.Ty.{Ty}
 use Rattle.zir_tree.specs.declared.expr.Expr.{Expr}
-use Rattle.zir_tree.specs.declared.stmt.Stmt.{Stmt, Var as VarStmt, Assign, Call as CallStmt, Error, If' as IfStmt', IfElse', While' as WhileStmt'}
-use Rattle.zir_tree.specs.declared.stmt.Stmt.{For' as ForStmt'}
-use Rattle.zir_tree.specs.declared.stmt.Return.{Return as ReturnStmt}
-use Rattle.zir_tree.specs.declared.stmt.Body.{Body}
 use Rattle.zir_tree.specs.declared.comp.Turning.{Turning}
 use Rattle.zir_tree.specs.declared.comp.Link.{Link}
 use Rattle.zir_tree.specs.declared.comp.Comp.{Comp, Take, Takes, Emit, Emits, Return, Do, Repeat, Repeat', While, While', Times, Times', For, For'}
@@ -22,8 +18,6 @@ use Rattle.zir_tree.specs.declared.comp.Member.{Member, Bind, Var, Run}
 use Rattle.zir_tree.specs.declared.program.Instance.{Instance}
 use Rattle.zir_types.specs.declared.scope.Signature.{Signature}
 use Rattle.zir_types.specs.declared.typed.Typed.{Typed}
-use Rattle.zir_types.specs.declared.typed.TypedVar.{TypedVar}
-use Rattle.zir_types.specs.declared.typed.TypedBody.{TypedBody}
 use Rattle.zir_types.specs.declared.error.TypeError.TheVariants.{Mismatch, NotUnit, NotComputer, NotStreamType}
 use Rattle.zir_types.specs.Walk.{Walk, Fine, and_then, check}
 use Rattle.zir_types.specs.Kinds.{scalar, arr, same_ty}
@@ -34,15 +28,14 @@ use Rattle.zir_types.specs.Components
 use Rattle.zir_types.proofs.Fine.{first_fine, held, same_fine}
 use Rattle.zir_shapes.specs.Shapes.{StructsBefore}
 use Rattle.zir_sound.specs.Laws.{is_in}
-use Rattle.zir_sound.specs.Statements.{IsBody, Returns, behind, brought}
 use Rattle.zir_sound.proofs.Found.{function_place}
 use Rattle.zir_sound.proofs.Statements.{do_body_sound}
 use Rattle.zir_typed_code.specs.Forming.{IsFilled, AllFilled, KnownType, FormedVar, FormedParams, FormedBody, FormedComp, FormedMembers, FormedInstance}
-use Rattle.zir_typed_code.specs.Forming.{FilledReturn, FormedStmt, FormedAll, FormedInstances, numbers_after, with_params}
+use Rattle.zir_typed_code.specs.Forming.{FormedInstances, with_params}
 use Rattle.zir_typed_code.proofs.KnownBodies.{body_known}
-use Rattle.zir_typed_code.proofs.Rising.{RisesComp, RisesMember, RisesMembers, Clear, clear_part, clear_more}
+use Rattle.zir_typed_code.proofs.Rising.{RisesComp, RisesMembers, Clear, clear_part, clear_more}
 use Rattle.zir_typed_code.proofs.Filled.{expr_fills, list_fills}
-use Rattle.zir_typed_code.proofs.Writing.{AllSeen, AllTypes, Sees, VarForms, knows, results_known, sees_more, types_more, typed_known, var_forms}
+use Rattle.zir_typed_code.proofs.Writing.{AllTypes, Sees, VarForms, knows, results_known, sees_more, types_more, typed_known, var_forms}
 use Rattle.zir_typed_code.proofs.Forms.{do_body_forms}
 
 -- What was reached is well formed, and so are the instances.

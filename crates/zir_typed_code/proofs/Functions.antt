@@ -1,45 +1,38 @@
 -- Typed functions are what code asks for, and are found by their places.
-use Rattle.std.specs.Prelude.{◌≡◌, refl, ◌≤◌, ◌<◌, ◌+◌, ◌⊎◌, max, ℕ, zero, suc, List, [], ◌∷◌, ◌++◌, map, Bool, true, false, nat_eq, Option, Some, None, slice_get, length}
+use Rattle.std.specs.Prelude.{◌≡◌, refl, ◌≤◌, ◌<◌, ◌⊎◌, max, ℕ, zero, suc, List, [], ◌∷◌, ◌++◌, map, Bool, true, false, nat_eq, Option, Some, None, slice_get, length}
 use Rattle.std.proofs.Common.{ap, ◌∙◌, sym, subst, arith, inl, inr}
-use Rattle.std.proofs.lemmas.Bool.{eqb-true, eq-eqb, ne_eqb}
+use Rattle.std.proofs.lemmas.Bool.{eq-eqb, ne_eqb}
 use Rattle.std.proofs.lemmas.List.{append-nil, append_assoc}
 use Rattle.zir_tree.specs.declared.types.Ty.{Ty}
-use Rattle.zir_tree.specs.declared.types.Field.{Field}
 use Rattle.zir_tree.specs.declared.types.TypeExpr.{TypeExpr}
 use Rattle.zir_tree.specs.declared.types.StructDef.{StructDef}
-use Rattle.zir_tree.specs.declared.expr.Expr.{Expr}
 use Rattle.zir_tree.specs.declared.stmt.Stmt.{Stmt, Var as VarStmt, Assign, Call, Error, If', IfElse', While', For'}
 use Rattle.zir_tree.specs.declared.stmt.Return.{Return}
-use Rattle.zir_tree.specs.declared.stmt.Var.{Var}
 use Rattle.zir_tree.specs.declared.program.Function.{Function}
 use Rattle.zir_tree.specs.declared.program.Core.{Core}
-use Rattle.zir_types.specs.declared.scope.Shape.{Shape}
 use Rattle.zir_types.specs.declared.scope.Signature.{Signature}
 use Rattle.zir_types.specs.Scope.{Visible, declare}
 use Rattle.zir_types.specs.Programs.{defs_of}
-use Rattle.zir_meaning.specs.Values.{type_of}
 use Rattle.zir_meaning.specs.Functions.{pick}
-use Rattle.zir_shapes.specs.Shapes.{StructsBefore, Ordered}
+use Rattle.zir_shapes.specs.Shapes.{StructsBefore}
 use Rattle.zir_code.specs.declared.scope.Holder.{Holder}
 use Rattle.zir_code.specs.declared.scope.Signature as code
 use Rattle.zir_code.specs.Scopes.{Scope}
 use Rattle.zir_code.specs.Types.{cells_for, size_in}
-use Rattle.zir_code.specs.Peaks.{peak_of}
 use Rattle.zir_code.specs.Statements.{scope_after, free_after}
-use Rattle.zir_code.specs.Fine.{Fits}
-use Rattle.zir_code.specs.Needs.{stmt_peak, all_peak, result_peak, body_needs}
-use Rattle.zir_code.specs.Bodies.{inside, cells_of_all, scope_after_all, free_after_all, FineAll, ResultFits, ParametersKnown, FineBody}
+use Rattle.zir_code.specs.Needs.{all_peak, result_peak}
+use Rattle.zir_code.specs.Bodies.{inside, cells_of_all, scope_after_all, free_after_all, ResultFits, FineBody}
 use Rattle.zir_code.specs.Program.{at_top, one_more_signature, more_signatures}
 use Rattle.zir_code.proofs.TypesFound.{types_found}
 use Rattle.zir_compile.specs.Signing.{type_given, cells_of, is_signed, signature_in, signature_if, signature_of, signatures_after, signatures_of, no_signature}
 use Rattle.zir_compile.specs.Signing.{FineIn, FineAfter}
-use Rattle.zir_eval.specs.Opening.{top_holders, program_scope}
+use Rattle.zir_eval.specs.Opening.{program_scope}
 use Rattle.zir_sound.specs.Statements.{AreStmtsOf, IsBody, Returns, param_of}
 use Rattle.zir_sound.specs.Statements as sound
 use Rattle.zir_sound.specs.Cores.{Begins, IsTop, IsFunction, AreFunctions, IsSound, result_type}
 use Rattle.zir_sound.specs.Cores as cores
 use Rattle.zir_sound.proofs.Fronts.{begins_self}
-use Rattle.zir_typed_code.specs.Forming.{KnownIfAny, FilledReturn, FormedAll, FormedParams, FormedFunction, FormedFunctions, FormedVars, WellFormed, with_vars, with_params, top_numbers, numbers_behind}
+use Rattle.zir_typed_code.specs.Forming.{KnownIfAny, FilledReturn, FormedFunction, FormedFunctions, WellFormed, with_params, top_numbers, numbers_behind}
 use Rattle.zir_typed_code.specs.Scopes.{MayCall, SameScope}
 use Rattle.zir_typed_code.specs.Programs.{AllSigned, IsSigned, SignedAt, tops_of}
 use Rattle.zir_typed_code.proofs.Expressions.{expression_fits}
@@ -93,15 +86,14 @@ body_fine xs v g n w e f formed body le =
     let all : max (all_peak (inside g ps) d ss) (result_peak (scope_after_all (inside g ps) d ss) (free_after_all (inside g ps) d ss) f.body.result) ≤ n = le in
     let first = all_within (inside g ps) d ss in
     let room : d ≤ n = omega arith in
-    let inner = parameters_come xs v g n w e ps formed.params room in
-    (
+    let inner = parameters_come xs v g n w e ps formed.params room in (
       params_known g xs ps formed.params,
       room,
       statements_fit (with_params xs ps) u (inside g ps) n inner d ss formed.body.0 body.statements (omega arith),
       subst (λ t. ResultFits (scope_after_all (inside g ps) d ss) (free_after_all (inside g ps) d ss) n t f.body.result) (given_same f.result)
-      (result_fits (numbers_behind (with_params xs ps) ss) (sound.behind u ss) (scope_after_all (inside g ps) d ss) n (free_after_all (inside g ps) d ss)
-      (scopes_go_on (with_params xs ps) u (inside g ps) n inner d ss formed.body.0 body.statements (omega arith)) (result_type f.result) f.body.result
-      formed.body.1 body.result (omega arith)),
+          (result_fits (numbers_behind (with_params xs ps) ss) (sound.behind u ss) (scope_after_all (inside g ps) d ss) n (free_after_all (inside g ps) d ss)
+          (scopes_go_on (with_params xs ps) u (inside g ps) n inner d ss formed.body.0 body.statements (omega arith)) (result_type f.result) f.body.result
+          formed.body.1 body.result (omega arith)),
     )
 
 -- What is at a place of a list with one more.
@@ -215,11 +207,10 @@ functions_after core top formed structs variables (f ∷ fs) funs before n e eac
     subst (λ o. MayCallAll (at_top core.structs (tops_of core) (one_more_signature funs n o)) (before ++ cores.signature_of f ∷ [])) (sym s.0) one in
     let is : IsFunction top before f = h.0 in
     let w = part_same core top before funs (cells_of g f) is.seen formed structs calls is.is_top.shapes (same_begins is.seen.functions before is.is_top.functions_are)
-    (subst (λ us. Begins us (map sound.seen_of core.variables)) (sym is.is_top.variables_are) (subst (Begins is.variables) variables is.first)) in
-    (
+    (subst (λ us. Begins us (map sound.seen_of core.variables)) (sym is.is_top.variables_are) (subst (Begins is.variables) variables is.first)) in (
       fine_in (is_signed g f) core.structs (tops_of core) funs f (body_fine (top_numbers core) is.seen g (cells_of g f) w refl f each.0 is.body (omega arith)),
       functions_after core top formed structs variables fs (one_more_signature funs n made) (before ++ cores.signature_of f ∷ []) (suc n)
-      (longer before (cores.signature_of f) n e) each.1 s.1 here h.1,
+          (longer before (cores.signature_of f) n e) each.1 s.1 here h.1,
     )
 
 none_called : (g : Scope) → MayCallAll g []

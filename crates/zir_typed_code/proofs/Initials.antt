@@ -1,5 +1,5 @@
 -- Initial values of top variables are what code asks for, and the types of a well formed core are known.
-use Rattle.std.specs.Prelude.{◌≡◌, refl, ◌≤◌, ◌+◌, max, ℕ, List, [], ◌∷◌, ◌++◌, map, false, if◌then◌else◌, nat_eq, Option, Some, None, length}
+use Rattle.std.specs.Prelude.{◌≡◌, refl, ◌≤◌, max, ℕ, List, [], ◌∷◌, ◌++◌, map, false, if◌then◌else◌, nat_eq, Option, Some, None, length}
 use Rattle.std.proofs.Common.{ap, ◌∙◌, sym, subst, arith}
 use Rattle.std.proofs.lemmas.Bool.{eq-eqb}
 use Rattle.std.proofs.lemmas.List.{append_assoc}
@@ -39,8 +39,7 @@ whole_fits xs v g n d w x t e r f has le =
     let own = expression_fits xs v g n w t e f has in
     let size : size_in g e ≡ cells_for g t = ap (cells_for g) (types_found g n t e own) in
     let room : max (peak_of g e d) (storing_peak g (variable g x.id) [] d (size_in g e)) ≤ n = le in
-    let at_last : storing_peak g (variable g x.id) [] d (size_in g e) ≤ n = omega arith in
-    (
+    let at_last : storing_peak g (variable g x.id) [] d (size_in g e) ≤ n = omega arith in (
       t,
       r.holder,
       r.found,

@@ -1,5 +1,5 @@
 -- The values of typed bodies are of known types.
-use Rattle.std.specs.Prelude.{◌≡◌, refl, ◌⊎◌, ℕ, List, [], ◌∷◌, true, nat_eq, Option, Some, None}
+use Rattle.std.specs.Prelude.{◌≡◌, ◌⊎◌, ℕ, List, [], ◌∷◌, true, nat_eq, Option, Some, None}
 use Rattle.std.proofs.Common.{ap, ◌∙◌, sym, inl, inr}
 use Rattle.std.proofs.lemmas.List.{append-nil}
 use Rattle.zir_tree.specs.declared.types.Base.TheVariants.{Unit as UnitTy}

@@ -1,11 +1,11 @@
 -- What typed components emit, and their values, are of known types.
-use Rattle.std.specs.Prelude.{◌≡◌, refl, ℕ, zero, suc, List, [], ◌∷◌, ◌++◌, Option, Some, None, slice_get, length}
-use Rattle.std.proofs.Common.{ap, ◌∙◌, sym, subst}
+use Rattle.std.specs.Prelude.{◌≡◌, ℕ, zero, suc, List, [], ◌∷◌, ◌++◌, Option, Some, None, slice_get, length}
+use Rattle.std.proofs.Common.{sym, subst}
 use Rattle.zir_tree.specs.declared.types.Base.TheVariants.{Int32}
 use Rattle.zir_tree.specs.declared.types.Ty.{Ty}
 use Rattle.zir_tree.specs.declared.comp.Comp.{Comp, Take, Takes, Emit, Emits, Return, Do, Repeat', While', Times', For', If', Map, Filter, Call}
 use Rattle.zir_tree.specs.declared.comp.Comp.{Block', Pipe', end_of-Comp, more_of-Comp, Row_of-Member, end_of-Member, more_of-Member}
-use Rattle.zir_tree.specs.declared.comp.Member.{Member, Bind, Var, Run}
+use Rattle.zir_tree.specs.declared.comp.Member.{Bind, Var, Run}
 use Rattle.zir_tree.specs.declared.program.Instance.{Instance}
 use Rattle.zir_types.specs.Kinds.{scalar, arr}
 use Rattle.zir_types.specs.Scope.{Visible, declare, variable}
@@ -55,17 +55,15 @@ mutual
       ((comp_known m tops xs v is a c out unit_value w i known f.1 h.2).0, known_as m val unit_value h.0 tt)
   comp_known m tops xs v is a (Times' e _ (more_of-Comp c end_of-Comp) p) out val w i known f h =
       ((comp_known m tops xs v is a c out unit_value w i known f.1 h.2).0, known_as m val unit_value h.0 tt)
-  comp_known m tops xs v is a (For' x e l _ (more_of-Comp c end_of-Comp) p) out val w i known f h =
-      (
-        (comp_known m tops (x.id ∷ xs) (with_index x v) is a c out unit_value (knows_one m v (variable x.id (scalar Int32)) w tt) i known f.3 h.3).0,
-        known_as m val unit_value h.0 tt,
-      )
+  comp_known m tops xs v is a (For' x e l _ (more_of-Comp c end_of-Comp) p) out val w i known f h = (
+    (comp_known m tops (x.id ∷ xs) (with_index x v) is a c out unit_value (knows_one m v (variable x.id (scalar Int32)) w tt) i known f.3 h.3).0,
+    known_as m val unit_value h.0 tt,
+  )
   comp_known m tops xs v is a (If' e _ (more_of-Comp c end_of-Comp) _ (more_of-Comp d end_of-Comp) p) out val w i known f (r, s, agree, is_out, cond, hc, hd) =
       let k = comp_known m tops xs v is a c r val w i known f.1 hc in
-      let l = comp_known m tops xs v is a d s val w i known f.2 hd in
-      (
+      let l = comp_known m tops xs v is a d s val w i known f.2 hd in (
         known_as m out (first_of (emitted r ++ emitted s)) is_out
-        (first_known m (emitted r ++ emitted s) (types_more m (emitted r) (emitted s) (emitted_known m r k.0) (emitted_known m s l.0))),
+            (first_known m (emitted r ++ emitted s) (types_more m (emitted r) (emitted s) (emitted_known m r k.0) (emitted_known m s l.0))),
         k.1,
       )
   comp_known m tops xs v is a (Map g k p) out val w i known f (s, at, params, unit, is_out, is_val) =

@@ -1,11 +1,9 @@
 -- Typed statements are what code asks for.
-use Rattle.std.specs.Prelude.{◌≡◌, refl, ◌≤◌, ◌+◌, max, ℕ, List, [], ◌∷◌, ◌++◌, Bool, true, false, Option, Some, None, slice_get, length}
-use Rattle.std.proofs.Common.{ap, ◌∙◌, sym, subst, arith}
+use Rattle.std.specs.Prelude.{◌≡◌, refl, ◌≤◌, ◌+◌, max, ℕ, List, [], ◌∷◌, Bool, true, false, Option, Some, None, length}
+use Rattle.std.proofs.Common.{ap, sym, subst, arith}
 use Rattle.std.proofs.lemmas.List.{append-nil}
-use Rattle.zir_tree.specs.declared.types.Base.{Base}
 use Rattle.zir_tree.specs.declared.types.Base.TheVariants.{Bool as BoolTy, Int32}
 use Rattle.zir_tree.specs.declared.types.Ty.{Ty}
-use Rattle.zir_tree.specs.declared.types.StructDef.{StructDef}
 use Rattle.zir_tree.specs.declared.ident.Ident.{Ident}
 use Rattle.zir_tree.specs.declared.expr.Expr.{Expr}
 use Rattle.zir_tree.specs.declared.stmt.Access.{Access}
@@ -13,20 +11,17 @@ use Rattle.zir_tree.specs.declared.stmt.Access.TheVariants.{Index, Slice, Part}
 use Rattle.zir_tree.specs.declared.stmt.Stmt.{Stmt, Var as VarStmt, Assign, Call, Error, If', IfElse', While', For', Row_of-Stmt, end_of-Stmt, more_of-Stmt}
 use Rattle.zir_tree.specs.declared.stmt.Return.{Return}
 use Rattle.zir_tree.specs.declared.stmt.Body.{Body}
-use Rattle.zir_types.specs.declared.scope.Signature.{Signature}
 use Rattle.zir_types.specs.Kinds.{scalar, arr}
-use Rattle.zir_types.specs.Scope.{Visible, declare, part_in}
+use Rattle.zir_types.specs.Scope.{Visible, declare}
 use Rattle.zir_types.specs.Statements as seen
 use Rattle.zir_types.specs.Typing as types
 use Rattle.zir_meaning.specs.Values.{type_of}
 use Rattle.zir_meaning.specs.Functions.{pick}
-use Rattle.zir_shapes.specs.Shapes.{StructsBefore}
-use Rattle.zir_code.specs.declared.scope.Holder.{Holder}
 use Rattle.zir_code.specs.Scopes.{Scope, variable}
-use Rattle.zir_code.specs.Types.{element_type, part_type, result_type, cells_for, size_in}
+use Rattle.zir_code.specs.Types.{element_type, result_type, cells_for, size_in}
 use Rattle.zir_code.specs.Peaks.{behind, needs_of, peak_of, peak_of_all}
-use Rattle.zir_code.specs.Typing.{PartFits, Has}
-use Rattle.zir_code.specs.Statements.{with_local, with_index, scope_after, free_after, has_index, along_peak, storing_peak}
+use Rattle.zir_code.specs.Typing.{PartFits}
+use Rattle.zir_code.specs.Statements.{with_index, scope_after, free_after, has_index, along_peak, storing_peak}
 use Rattle.zir_code.specs.Fine.{Fits, InitialFits, AlongFits, Fine, FineRow}
 use Rattle.zir_code.specs.Needs.{initial_peak, stmt_peak, row_peak, all_peak}
 use Rattle.zir_code.specs.Bodies.{scope_after_all, free_after_all, FineAll}
@@ -61,8 +56,7 @@ along_fits : (xs : List ℕ) (v : Visible) (g : Scope) (n o : ℕ) → SameScope
 along_fits xs v g n o w t [] u f h le = h
 along_fits xs v g n o w t (Index e p ∷ steps) u f (m, s, b, is, whole, has, more) le =
     let all : max (peak_of g e (o + 1)) (along_peak g (element_type t) o steps) ≤ n = le refl in
-    let rest : along_peak g (element_type t) o steps ≤ n = omega arith in
-    (
+    let rest : along_peak g (element_type t) o steps ≤ n = omega arith in (
       m,
       s,
       b,
@@ -73,8 +67,7 @@ along_fits xs v g n o w t (Index e p ∷ steps) u f (m, s, b, is, whole, has, mo
     )
 along_fits xs v g n o w t (Slice e k p ∷ steps) u f (m, s, b, is, whole, has, more) le =
     let all : max (peak_of g e (o + 1)) (along_peak g (arr k (element_type t)) o steps) ≤ n = le refl in
-    let rest : along_peak g (arr k (element_type t)) o steps ≤ n = omega arith in
-    (
+    let rest : along_peak g (arr k (element_type t)) o steps ≤ n = omega arith in (
       m,
       s,
       b,
@@ -84,8 +77,7 @@ along_fits xs v g n o w t (Slice e k p ∷ steps) u f (m, s, b, is, whole, has, 
       along_fits xs v g n o w (arr k s) steps u f.1 more (λ i. subst (λ r. along_peak g (arr k r) o steps ≤ n) (ap element_type is) rest),
     )
 along_fits xs v g n o w t (Part x k p ∷ steps) u f (s, is, more) le =
-    let part : PartFits g.structs t k s = part_fits v.shapes g.structs t x k s w.structs is in
-    (
+    let part : PartFits g.structs t k s = part_fits v.shapes g.structs t x k s w.structs is in (
       s,
       part,
       along_fits xs v g n o w s steps u f more (λ i. subst (λ r. along_peak g r o steps ≤ n) (part_found g.structs t k s part) (le i)),
@@ -105,8 +97,7 @@ assign_fits xs v g n d w x steps e f (t, u, found, leads, has) le =
     let at_last : storing_peak g (variable g x.id) steps d (size_in g e) ≤ n = omega arith in
     let here : storing_peak g (Some r.holder) steps d (cells_for g u) ≤ n =
     subst (λ k. storing_peak g (Some r.holder) steps d k ≤ n) size (subst (λ o. storing_peak g o steps d (size_in g e) ≤ n) r.found at_last) in
-    let way : Leads v r.holder.ty steps u = subst (λ s. Leads v s steps u) (sym r.type_is) leads in
-    (
+    let way : Leads v r.holder.ty steps u = subst (λ s. Leads v s steps u) (sym r.type_is) leads in (
       u,
       r.holder,
       r.found,
@@ -114,7 +105,7 @@ assign_fits xs v g n d w x steps e f (t, u, found, leads, has) le =
       r.fits,
       (own, omega arith),
       along_fits xs v g n (d + cells_for g u) w r.holder.ty steps u f.0 way
-      (storing_along (has_index steps) (along_peak g r.holder.ty (d + cells_for g u) steps) (behind d (cells_for g u)) n here),
+          (storing_along (has_index steps) (along_peak g r.holder.ty (d + cells_for g u) steps) (behind d (cells_for g u)) n here),
       here,
     )
 
@@ -122,8 +113,7 @@ call_fits : (xs : List ℕ) (v : Visible) (g : Scope) (n d : ℕ) → SameScope 
     IsStmt v (Call x k es) → stmt_peak g d (Call x k es) ≤ n → Fine g d n (Call x k es)
 call_fits xs v g n d w x k es f (s, at, unit, each) le =
     let m : MayCall g k s = w.functions k s at in
-    let room : max (peak_of_all g es d) (d + max (cells_for g (result_type (g.funs k))) (needs_of (g.funs k))) ≤ n = le in
-    (
+    let room : max (peak_of_all g es d) (d + max (cells_for g (result_type (g.funs k))) (needs_of (g.funs k))) ≤ n = le in (
       m.made,
       m.found,
       lists_fit xs v g n w m.made.params es f (subst (λ ts. sound.Each v ts es) (sym m.params) each),
@@ -171,17 +161,15 @@ mutual
   stmt_fits xs v g n d w (Error text p) f h le = tt
   stmt_fits xs v g n d w (If' e _ ss p) f h le =
       (fits_here xs v g n d w (scalar BoolTy) e f.0 h.0 (omega arith), row_fits xs v g n d w ss f.1 h.1 (omega arith))
-  stmt_fits xs v g n d w (IfElse' e _ ss _ us p) f h le =
-      (
-        fits_here xs v g n d w (scalar BoolTy) e f.0 h.0 (omega arith),
-        row_fits xs v g n d w ss f.1 h.1 (omega arith),
-        row_fits xs v g n d w us f.2 h.2 (omega arith),
-      )
+  stmt_fits xs v g n d w (IfElse' e _ ss _ us p) f h le = (
+    fits_here xs v g n d w (scalar BoolTy) e f.0 h.0 (omega arith),
+    row_fits xs v g n d w ss f.1 h.1 (omega arith),
+    row_fits xs v g n d w us f.2 h.2 (omega arith),
+  )
   stmt_fits xs v g n d w (While' e _ ss p) f h le =
       (fits_here xs v g n d w (scalar BoolTy) e f.0 h.0 (omega arith), row_fits xs v g n d w ss f.1 h.1 (omega arith))
   stmt_fits xs v g n d w (For' x a k _ ss p) f h le =
-      let inner = local_comes xs v g n w d x.id (scalar Int32) f.0 tt (omega arith) in
-      (
+      let inner = local_comes xs v g n w d x.id (scalar Int32) f.0 tt (omega arith) in (
         fits_here xs v g n d w (scalar Int32) a f.1 h.0 (omega arith),
         fits_here xs v g n (d + 1) w (scalar Int32) k f.2 h.1 (omega arith),
         omega arith,
@@ -191,23 +179,21 @@ mutual
   row_fits : (xs : List ℕ) (v : Visible) (g : Scope) (n d : ℕ) → SameScope xs v g n → {m : _} (ss : Row_of-Stmt m) → FormedRow (length g.structs) xs ss →
       AreStmts v ss → row_peak g d ss ≤ n → FineRow g d n ss
   row_fits xs v g n d w end_of-Stmt f h le = tt
-  row_fits xs v g n d w (more_of-Stmt s ss) f h le =
-      (
-        stmt_fits xs v g n d w s f.0 h.0 (omega arith),
-        row_fits (numbers_after xs s) (declare (brought s) v) (scope_after g d s) n (free_after g d s)
+  row_fits xs v g n d w (more_of-Stmt s ss) f h le = (
+    stmt_fits xs v g n d w s f.0 h.0 (omega arith),
+    row_fits (numbers_after xs s) (declare (brought s) v) (scope_after g d s) n (free_after g d s)
         (scope_goes_on xs v g n d w s f.0 (omega arith)) ss
         (subst (λ structs. FormedRow (length structs) (numbers_after xs s) ss) (same_structs g d s) f.1) h.1 (omega arith),
-      )
+  )
 
 pub statements_fit : (xs : List ℕ) (v : Visible) (g : Scope) (n : ℕ) → SameScope xs v g n → (d : ℕ) (ss : List Stmt) → FormedAll (length g.structs) xs ss →
     AreStmtsOf v ss → all_peak g d ss ≤ n → FineAll g d n ss
 statements_fit xs v g n w d [] f h le = tt
-statements_fit xs v g n w d (s ∷ ss) f h le =
-    (
-      stmt_fits xs v g n d w s f.0 h.0 (omega arith),
-      statements_fit (numbers_after xs s) (declare (brought s) v) (scope_after g d s) n (scope_goes_on xs v g n d w s f.0 (omega arith)) (free_after g d s) ss
+statements_fit xs v g n w d (s ∷ ss) f h le = (
+  stmt_fits xs v g n d w s f.0 h.0 (omega arith),
+  statements_fit (numbers_after xs s) (declare (brought s) v) (scope_after g d s) n (scope_goes_on xs v g n d w s f.0 (omega arith)) (free_after g d s) ss
       (subst (λ structs. FormedAll (length structs) (numbers_after xs s) ss) (same_structs g d s) f.1) h.1 (omega arith),
-    )
+)
 
 pub scopes_go_on : (xs : List ℕ) (v : Visible) (g : Scope) (n : ℕ) → SameScope xs v g n → (d : ℕ) (ss : List Stmt) → FormedAll (length g.structs) xs ss →
     AreStmtsOf v ss → all_peak g d ss ≤ n → SameScope (numbers_behind xs ss) (sound.behind v ss) (scope_after_all g d ss) n
@@ -225,9 +211,8 @@ pub bodies_fit : (xs : List ℕ) (v : Visible) (g : Scope) (n : ℕ) → SameSco
     IsBody v t b → all_peak g d b.statements ≤ n →
     return_peak (scope_after_all g d b.statements) (free_after_all g d b.statements) b.result ≤ n →
     FineAll g d n b.statements × ValueFits (scope_after_all g d b.statements) (free_after_all g d b.statements) n t b.result
-bodies_fit xs v g n w d t b f h le top =
-    (
-      statements_fit xs v g n w d b.statements f.0 h.statements le,
-      value_fits (numbers_behind xs b.statements) (sound.behind v b.statements) (scope_after_all g d b.statements) n (free_after_all g d b.statements)
+bodies_fit xs v g n w d t b f h le top = (
+  statements_fit xs v g n w d b.statements f.0 h.statements le,
+  value_fits (numbers_behind xs b.statements) (sound.behind v b.statements) (scope_after_all g d b.statements) n (free_after_all g d b.statements)
       (scopes_go_on xs v g n w d b.statements f.0 h.statements le) t b.result f.1 h.result top,
-    )
+)

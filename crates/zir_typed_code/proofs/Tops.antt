@@ -1,8 +1,7 @@
 -- Top variables are found by code as they are seen.
-use Rattle.std.specs.Prelude.{◌≡◌, refl, ◌≤◌, ◌+◌, ℕ, zero, suc, List, [], ◌∷◌, ◌++◌, map, Bool, true, false, ◌||◌, if◌then◌else◌, nat_eq, Option, Some, None, slice_get, length}
-use Rattle.std.proofs.Common.{ap, ◌∙◌, sym, subst, arith, inl, inr}
-use Rattle.std.proofs.lemmas.Bool.{eqb-true, eq-eqb, ne_eqb}
-use Rattle.std.proofs.lemmas.List.{append-nil, append_assoc}
+use Rattle.std.specs.Prelude.{◌≡◌, refl, ◌+◌, ℕ, List, [], ◌∷◌, ◌++◌, map, Bool, true, false, ◌||◌, if◌then◌else◌, nat_eq, Option, Some, None, slice_get, length}
+use Rattle.std.proofs.Common.{ap, ◌∙◌, sym, subst, inl, inr}
+use Rattle.std.proofs.lemmas.Bool.{eq-eqb, ne_eqb}
 use Rattle.zir_tree.specs.declared.types.Ty.{Ty}
 use Rattle.zir_tree.specs.declared.types.StructDef.{StructDef}
 use Rattle.zir_tree.specs.declared.stmt.Var.{Var}
@@ -19,16 +18,15 @@ use Rattle.zir_code.specs.declared.scope.Holder.{Holder}
 use Rattle.zir_code.specs.declared.scope.Signature as code
 use Rattle.zir_code.specs.Scopes.{Scope, found_among}
 use Rattle.zir_code.specs.Program.{at_top}
-use Rattle.zir_code.specs.Typing.{HolderFits}
 use Rattle.zir_code.specs.Fine.{Absent, Sole}
 use Rattle.zir_eval.specs.Opening.{top_holder, top_holders, cells_for_var}
 use Rattle.zir_flow.specs.Fitting.{Distinct}
 use Rattle.zir_sound.specs.Statements.{seen_of}
-use Rattle.zir_sound.specs.Cores.{Begins, IsTop}
+use Rattle.zir_sound.specs.Cores.{Begins}
 use Rattle.zir_sound.specs.Laws.{is_in}
 use Rattle.zir_sound.proofs.Fronts.{begins_trans, get_begins}
 use Rattle.zir_typed_code.specs.Forming.{FormedVars, with_vars}
-use Rattle.zir_typed_code.specs.Scopes.{Finds, MayCall, IsNew, SameScope}
+use Rattle.zir_typed_code.specs.Scopes.{Finds, MayCall, SameScope}
 use Rattle.zir_typed_code.proofs.Coming.{neither}
 
 -- A number that is in scope is none of those that come behind.
@@ -48,18 +46,16 @@ other_number xs x id new h = ne_eqb x id (λ e. let c : true ≡ false = sym h �
 absent_behind : (m : ℕ) (structs : List StructDef) (xs : List ℕ) (i : ℕ) (vs : List Var) (id : ℕ) → FormedVars m xs vs → is_in xs id ≡ true →
     Absent (top_holders structs i vs) id
 absent_behind m structs xs i [] id f h = tt
-absent_behind m structs xs i (v ∷ vs) id f h =
-    (
-      other_number xs v.name.id id f.0.0 h,
-      absent_behind m structs (v.name.id ∷ xs) (i + cells_for_var structs v) vs id f.1 (in_more v.name.id xs id h),
-    )
+absent_behind m structs xs i (v ∷ vs) id f h = (
+  other_number xs v.name.id id f.0.0 h,
+  absent_behind m structs (v.name.id ∷ xs) (i + cells_for_var structs v) vs id f.1 (in_more v.name.id xs id h),
+)
 
 -- Each top variable has a number of its own.
 own_tops : (m : ℕ) (structs : List StructDef) (xs : List ℕ) (i : ℕ) (vs : List Var) → FormedVars m xs vs → Distinct (top_holders structs i vs)
 own_tops m structs xs i [] f = tt
 own_tops m structs xs i (v ∷ vs) f =
-    let here : is_in (v.name.id ∷ xs) v.name.id ≡ true = ap (λ b. b || is_in xs v.name.id) (eq-eqb v.name.id v.name.id refl) in
-    (
+    let here : is_in (v.name.id ∷ xs) v.name.id ≡ true = ap (λ b. b || is_in xs v.name.id) (eq-eqb v.name.id v.name.id refl) in (
       absent_behind m structs (v.name.id ∷ xs) (i + cells_for_var structs v) vs v.name.id f.1 here,
       own_tops m structs (v.name.id ∷ xs) (i + cells_for_var structs v) vs f.1,
     )
@@ -72,11 +68,10 @@ out_before xs (v ∷ vs) id h = (neither (nat_eq v.name.id id) (is_in xs id) (ou
 pub absent_tops : (structs : List StructDef) (xs : List ℕ) (i : ℕ) (vs : List Var) (id : ℕ) → is_in (with_vars xs vs) id ≡ false →
     Absent (top_holders structs i vs) id
 absent_tops structs xs i [] id h = tt
-absent_tops structs xs i (v ∷ vs) id h =
-    (
-      (neither (nat_eq v.name.id id) (is_in xs id) (out_before (v.name.id ∷ xs) vs id h)).0,
-      absent_tops structs (v.name.id ∷ xs) (i + cells_for_var structs v) vs id h,
-    )
+absent_tops structs xs i (v ∷ vs) id h = (
+  (neither (nat_eq v.name.id id) (is_in xs id) (out_before (v.name.id ∷ xs) vs id h)).0,
+  absent_tops structs (v.name.id ∷ xs) (i + cells_for_var structs v) vs id h,
+)
 
 -- A top variable among some, as code has it.
 record Topped (structs : List StructDef) (ds : List Holder) (id : ℕ) (t : Ty) : Type 0 where

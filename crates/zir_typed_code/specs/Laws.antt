@@ -1,5 +1,5 @@
 -- That what typing accepts is what the laws of code ask for: expressions, statements and bodies.
-use Rattle.std.specs.Prelude.{◌≡◌, ◌≤◌, ◌+◌, ℕ, List, [], ◌∷◌, map, max, false, Option, Some, None, length}
+use Rattle.std.specs.Prelude.{◌≡◌, ◌≤◌, ◌+◌, ℕ, List, [], ◌∷◌, map, false, Option, Some, None, length}
 use Rattle.zir_tree.specs.declared.types.Ty.{Ty}
 use Rattle.zir_tree.specs.declared.types.Field.{Field}
 use Rattle.zir_tree.specs.declared.expr.Expr.{Expr}
@@ -15,10 +15,10 @@ use Rattle.zir_shapes.specs.Shapes.{StructsBefore}
 use Rattle.zir_shapes.specs.Offsets.{plain_type as plain}
 use Rattle.zir_code.specs.Scopes.{Scope}
 use Rattle.zir_code.specs.Types.{cells_for, size_in}
-use Rattle.zir_code.specs.Peaks.{peak_of, peak_of_all}
+use Rattle.zir_code.specs.Peaks.{peak_of}
 use Rattle.zir_code.specs.Typing.{Has, AllFit}
 use Rattle.zir_code.specs.Statements.{with_local}
-use Rattle.zir_code.specs.Fine.{Fits, Absent}
+use Rattle.zir_code.specs.Fine.{Fits}
 use Rattle.zir_code.specs.Needs.{all_peak}
 use Rattle.zir_code.specs.Bodies.{inside, cells_of_all, scope_after_all, free_after_all, FineAll, ParametersKnown}
 use Rattle.zir_sound.specs.Statements.{AreStmtsOf, Each, IsBody, behind, param_of}
