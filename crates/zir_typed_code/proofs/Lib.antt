@@ -7,6 +7,7 @@ pub mod Statements
 pub mod Tops
 pub mod Functions
 pub mod Initials
+pub mod Signed
 pub mod Rising
 pub mod Numbering
 pub mod Filled

@@ -4,7 +4,7 @@
 
 ghost use Rattle.zir_typed_code.specs.Laws.{BodiesFit, ComponentsAreKnown, ExpressionsFit, ListsFit, LocalsComeIn, ParametersAreKnown};
 ghost use Rattle.zir_typed_code.specs.Laws.{ParametersComeIn, ScopesGoOn, StatementsFit, ValuesAreKnown};
-ghost use Rattle.zir_typed_code.specs.Programs.{FunctionsFit, InitialsFit, SignaturesAreFound, TopIsSame, TypesAreKnown};
+ghost use Rattle.zir_typed_code.specs.Programs.{FoundAreSigned, FunctionsFit, InitialsFit, SignaturesAreFound, TopIsSame, TypesAreKnown};
 ghost use Rattle.zir_typed_code.specs.Walked.{TypedAreWellFormed};
 
 /// A typed expression has its type in code too.
@@ -55,6 +55,11 @@ pub fn scopes_go_on()
 /// Typed bodies are what code asks for.
 pub fn bodies_fit()
     ensures { BodiesFit }
+{}
+
+/// Where each function of a program is found, each has a signature.
+pub fn found_are_signed()
+    ensures { FoundAreSigned }
 {}
 
 /// At the top of a program both sides have the same in scope.
