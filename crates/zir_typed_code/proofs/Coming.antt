@@ -1,23 +1,22 @@
 -- Names come into scope on both sides.
-use Rattle.std.specs.Prelude.{◌≡◌, refl, ◌≤◌, ◌+◌, ◌⊎◌, ℕ, List, [], ◌∷◌, ◌++◌, map, Bool, true, false, ◌||◌, if◌then◌else◌, nat_eq, Option, Some, None, slice_get, length}
+use Rattle.std.specs.Prelude.{◌≡◌, refl, ◌≤◌, ◌+◌, ◌⊎◌, ℕ, List, [], ◌∷◌, ◌++◌, map, Bool, true, false, ◌||◌, if◌then◌else◌, nat_eq, Option, Some, None, length}
 use Rattle.std.proofs.Common.{ap, ◌∙◌, sym, subst, arith, inl, inr}
 use Rattle.std.proofs.lemmas.Bool.{eqb-true, eqb-false, ne_eqb}
 use Rattle.std.proofs.lemmas.List.{append-nil, append_assoc}
 use Rattle.zir_tree.specs.declared.types.Ty.{Ty}
 use Rattle.zir_tree.specs.declared.types.Field.{Field}
 use Rattle.zir_types.specs.declared.scope.Seen.{Seen}
-use Rattle.zir_types.specs.declared.scope.Signature.{Signature}
 use Rattle.zir_types.specs.Scope.{Visible, declare, type_in}
 use Rattle.zir_types.specs.Scope.{variable as seen}
 use Rattle.zir_meaning.specs.Values.{type_of}
 use Rattle.zir_shapes.specs.Shapes.{StructsBefore}
 use Rattle.zir_expr.specs.declared.frame.Spot.TheVariants.{Local}
 use Rattle.zir_code.specs.declared.scope.Holder.{Holder}
-use Rattle.zir_code.specs.Scopes.{Scope, found_among, variable}
+use Rattle.zir_code.specs.Scopes.{Scope, found_among}
 use Rattle.zir_code.specs.Types.{cells_for}
 use Rattle.zir_code.specs.Fine.{Absent, Sole, SoleIn}
 use Rattle.zir_code.specs.Statements.{with_local}
-use Rattle.zir_code.specs.Bodies.{parameters, cells_of_all, inside}
+use Rattle.zir_code.specs.Bodies.{parameters, cells_of_all, inside, ParametersKnown}
 use Rattle.zir_flow.specs.Fitting.{Distinct, Apart}
 use Rattle.zir_sound.specs.Statements.{param_of}
 use Rattle.zir_sound.specs.Laws.{is_in}
@@ -177,3 +176,8 @@ params_come (p ∷ ps) xs v g n ds i w f le =
 pub parameters_come : (xs : List ℕ) (v : Visible) (g : Scope) (n : ℕ) → SameScope xs v g n → g.locals ≡ [] → (ps : List Field) →
     FormedParams (length g.structs) xs ps → cells_of_all g ps ≤ n → SameScope (with_params xs ps) (declare (map param_of ps) v) (inside g ps) n
 parameters_come xs v g n w e ps f le = params_come ps xs v g n [] 0 (subst (λ ds. SameScope xs v (naming g ds) n) e w) f (omega arith)
+
+-- Well formed parameters are known to code.
+pub params_known : (g : Scope) (xs : List ℕ) (ps : List Field) → FormedParams (length g.structs) xs ps → ParametersKnown g ps
+params_known g xs [] f = tt
+params_known g xs (p ∷ ps) f = (f.1, params_known g (p.name.id ∷ xs) ps f.2)

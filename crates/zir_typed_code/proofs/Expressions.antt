@@ -1,12 +1,8 @@
 -- Typed expressions have their types in code.
-use Rattle.std.specs.Prelude.{◌≡◌, refl, ◌≤◌, ℕ, suc, List, [], ◌∷◌, map, true, Option, Some, None, slice_get}
-use Rattle.std.proofs.Common.{ap, ◌∙◌, sym, subst, arith}
-use Rattle.zir_tree.specs.declared.types.Base.{Base}
+use Rattle.std.specs.Prelude.{◌≡◌, refl, ◌≤◌, ℕ, suc, List, [], ◌∷◌, Option, Some, None, slice_get}
+use Rattle.std.proofs.Common.{ap, ◌∙◌, sym, subst}
 use Rattle.zir_tree.specs.declared.types.Base.TheVariants.{Struct as StructTy}
 use Rattle.zir_tree.specs.declared.types.Ty.{Ty}
-use Rattle.zir_tree.specs.declared.types.StructDef.{StructDef}
-use Rattle.zir_tree.specs.declared.ident.Ident.{Ident}
-use Rattle.zir_tree.specs.declared.expr.Callee.{Callee}
 use Rattle.zir_tree.specs.declared.expr.Callee.TheVariants.{Function, Struct}
 use Rattle.zir_tree.specs.declared.expr.Expr.{Expr, Unit as UnitLiteral, Bit, Bool as BoolLiteral, Int, Variable, Unary', Binary', Index', Slice'}
 use Rattle.zir_tree.specs.declared.expr.Expr.{Part', Call', Array', Convert', Complex', Row_of-Expr, end_of-Expr, more_of-Expr}
@@ -17,11 +13,9 @@ use Rattle.zir_types.specs.Kinds.{scalar, arr}
 use Rattle.zir_types.specs.Scope.{Visible, field_types}
 use Rattle.zir_types.specs.Typing.{function_at, struct_at, row_length}
 use Rattle.zir_types.specs.Typing as types
-use Rattle.zir_code.specs.declared.scope.Holder.{Holder}
-use Rattle.zir_code.specs.declared.scope.Signature as code
 use Rattle.zir_code.specs.Scopes.{Scope}
 use Rattle.zir_code.specs.Types.{count_of}
-use Rattle.zir_code.specs.Typing.{half_type, Has, ArgumentsFit, ElementsFit, AllFit}
+use Rattle.zir_code.specs.Typing.{Has, ArgumentsFit, ElementsFit, AllFit}
 use Rattle.zir_sound.specs.Statements.{Each}
 use Rattle.zir_typed_code.specs.Forming.{IsFilled, AreFilled, AllFilled}
 use Rattle.zir_typed_code.specs.Scopes.{Finds, MayCall, SameScope}

@@ -1,5 +1,5 @@
 -- What the walks of statements and bodies make is well formed.
-use Rattle.std.specs.Prelude.{◌≡◌, refl, ◌≤◌, ◌<◌, ℕ, List, [], ◌∷◌, ◌++◌, length, Bool, true, false, ◌&&◌, Option, Some, None}
+use Rattle.std.specs.Prelude.{◌≡◌, refl, ◌≤◌, ℕ, List, [], ◌∷◌, ◌++◌, length, Bool, false, ◌&&◌, Option, Some, None}
 use Rattle.std.proofs.Common.{ap, ◌∙◌, sym, subst, arith}
 use denote.Hole.Carrier.{hidden}
 use Rattle.zir_tree.specs.declared.place.Place.{Place}
@@ -19,7 +19,6 @@ use Rattle.zir_types.specs.declared.typed.Typed.{Typed}
 use Rattle.zir_types.specs.declared.typed.Selected.{Selected}
 use Rattle.zir_types.specs.declared.typed.Path.{Path}
 use Rattle.zir_types.specs.declared.typed.Step.{Step}
-use Rattle.zir_types.specs.declared.typed.TypedVar.{TypedVar}
 use Rattle.zir_types.specs.declared.typed.TypedBody.{TypedBody}
 use Rattle.zir_types.specs.declared.scope.Signature.{Signature}
 use Rattle.zir_types.specs.declared.error.TypeError.TheVariants.{Mismatch}
@@ -30,7 +29,7 @@ use Rattle.zir_types.specs.Expressions.{expr, unasked, wanted, InTurn, no_args, 
 use Rattle.zir_types.specs.Statements
 use Rattle.zir_types.proofs.Fine.{first_fine, held, same_fine}
 use Rattle.zir_sound.specs.Laws.{is_in}
-use Rattle.zir_typed_code.specs.Forming.{IsFilled, AllFilled, FilledPath, FilledReturn, FormedStmt, FormedRow, FormedAll, FormedBody, numbers_after, numbers_behind}
+use Rattle.zir_typed_code.specs.Forming.{IsFilled, FilledPath, FilledReturn, FormedStmt, FormedRow, FormedAll, FormedBody, numbers_after, numbers_behind}
 use Rattle.zir_typed_code.proofs.Rising.{RisesStmt, RisesRow, RisesAll, Clear, clear_part, clear_more}
 use Rattle.zir_typed_code.proofs.Filled.{expr_fills, list_fills}
 use Rattle.zir_typed_code.proofs.Writing.{VarForms, var_forms}

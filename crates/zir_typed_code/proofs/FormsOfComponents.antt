@@ -1,5 +1,5 @@
 -- What the walk of components makes is well formed.
-use Rattle.std.specs.Prelude.{◌≡◌, refl, ◌≤◌, ◌<◌, ◌+◌, ℕ, suc, List, [], ◌∷◌, ◌++◌, length, Bool, true, false, ◌&&◌, not, nat_eq, nat_le, if◌then◌else◌, Option, Some, None}
+use Rattle.std.specs.Prelude.{◌≡◌, refl, ◌+◌, ℕ, suc, List, [], ◌∷◌, ◌++◌, length, Bool, true, false, ◌&&◌, not, nat_eq, nat_le, if◌then◌else◌, Option, Some, None}
 use Rattle.std.proofs.Common.{ap, ◌∙◌, sym, subst, arith}
 use denote.Hole.Carrier.{hidden}
 use Rattle.zir_tree.specs.declared.place.Place.{Place}
@@ -8,10 +8,6 @@ use Rattle.zir_tree.specs.declared.types.Base.{Base}
 use Rattle.zir_tree.specs.declared.types.Base.TheVariants.{Unit as UnitTy, Bool as BoolTy, Int32}
 use Rattle.zir_tree.specs.declared.types.Ty.{Ty}
 use Rattle.zir_tree.specs.declared.expr.Expr.{Expr}
-use Rattle.zir_tree.specs.declared.stmt.Stmt.{Stmt, Var as VarStmt, Assign, Call as CallStmt, Error, If' as IfStmt', IfElse', While' as WhileStmt'}
-use Rattle.zir_tree.specs.declared.stmt.Stmt.{For' as ForStmt'}
-use Rattle.zir_tree.specs.declared.stmt.Return.{Return as ReturnStmt}
-use Rattle.zir_tree.specs.declared.stmt.Body.{Body}
 use Rattle.zir_tree.specs.declared.comp.Turning.{Turning}
 use Rattle.zir_tree.specs.declared.comp.Link.{Link}
 use Rattle.zir_tree.specs.declared.comp.Comp.{Comp, Take, Takes, Emit, Emits, Return, Do, Repeat, Repeat', While, While', Times, Times', For, For'}
@@ -22,8 +18,6 @@ use Rattle.zir_tree.specs.declared.comp.Member.{Member, Bind, Var, Run}
 use Rattle.zir_tree.specs.declared.program.Instance.{Instance}
 use Rattle.zir_types.specs.declared.scope.Signature.{Signature}
 use Rattle.zir_types.specs.declared.typed.Typed.{Typed}
-use Rattle.zir_types.specs.declared.typed.TypedVar.{TypedVar}
-use Rattle.zir_types.specs.declared.typed.TypedBody.{TypedBody}
 use Rattle.zir_types.specs.declared.error.TypeError.TheVariants.{Mismatch, NotUnit, NotComputer, NotStreamType}
 use Rattle.zir_types.specs.Walk.{Walk, Fine, and_then, check}
 use Rattle.zir_types.specs.Kinds.{scalar, arr, same_ty}
@@ -34,41 +28,15 @@ use Rattle.zir_types.specs.Components
 use Rattle.zir_types.proofs.Fine.{first_fine, held, same_fine}
 use Rattle.zir_shapes.specs.Shapes.{StructsBefore}
 use Rattle.zir_sound.specs.Laws.{is_in}
-use Rattle.zir_sound.specs.Statements.{IsBody, Returns, behind, brought}
 use Rattle.zir_sound.proofs.Found.{function_place}
 use Rattle.zir_sound.proofs.Statements.{do_body_sound}
 use Rattle.zir_typed_code.specs.Forming.{IsFilled, AllFilled, KnownType, FormedVar, FormedParams, FormedBody, FormedComp, FormedMembers, FormedInstance}
-use Rattle.zir_typed_code.specs.Forming.{FilledReturn, FormedStmt, FormedAll, FormedInstances, numbers_after, with_params}
-use Rattle.zir_typed_code.proofs.Known.{has_known, type_known}
-use Rattle.zir_typed_code.proofs.Rising.{RisesComp, RisesMember, RisesMembers, Clear, clear_part, clear_more}
+use Rattle.zir_typed_code.specs.Forming.{FormedInstances, with_params}
+use Rattle.zir_typed_code.proofs.KnownBodies.{body_known}
+use Rattle.zir_typed_code.proofs.Rising.{RisesComp, RisesMembers, Clear, clear_part, clear_more}
 use Rattle.zir_typed_code.proofs.Filled.{expr_fills, list_fills}
-use Rattle.zir_typed_code.proofs.Writing.{AllSeen, AllTypes, Sees, VarForms, knows, results_known, sees_more, types_more, typed_known, var_forms}
+use Rattle.zir_typed_code.proofs.Writing.{AllTypes, Sees, VarForms, knows, results_known, sees_more, types_more, typed_known, var_forms}
 use Rattle.zir_typed_code.proofs.Forms.{do_body_forms}
-
--- What is seen behind statements of known types.
-sees_behind : (m : ℕ) (xs : List ℕ) (g : Visible) (ss : List Stmt) → Sees m g → FormedAll m xs ss → Sees m (behind g ss)
-sees_behind m xs g [] w h = w
-sees_behind m xs g (s ∷ ss) w h =
-    sees_behind m (numbers_after xs s) (declare (brought s) g) ss (sees_more m g (brought s) w (brought_known m xs s h.0)) h.1
-  where
-    brought_known : (m : ℕ) (xs : List ℕ) (s : Stmt) → FormedStmt m xs s → AllSeen m (brought s)
-    brought_known m xs (VarStmt v) h = (h.1, tt)
-    brought_known m xs (Assign x steps e) h = tt
-    brought_known m xs (CallStmt f k es) h = tt
-    brought_known m xs (Error text p) h = tt
-    brought_known m xs (IfStmt' e _ us p) h = tt
-    brought_known m xs (IfElse' e _ us _ vs p) h = tt
-    brought_known m xs (WhileStmt' e _ us p) h = tt
-    brought_known m xs (ForStmt' x a n _ us p) h = tt
-
-returns_known : (m : ℕ) (g : Visible) (t : Ty) (r : Option ReturnStmt) → Sees m g → FilledReturn r → Returns g t r → StructsBefore m t.base
-returns_known m g t None w f h = type_known m t (scalar UnitTy) h tt
-returns_known m g t (Some r) w f h = has_known m g (knows m g w) t r.value f h
-
--- The type of a body's value.
-body_known : (m : ℕ) (xs : List ℕ) (g : Visible) (t : Ty) (b : Body) → Sees m g → FormedBody m xs b → IsBody g t b → StructsBefore m t.base
-body_known m xs g t b w f h =
-    returns_known m (behind g b.statements) t b.result (sees_behind m xs g b.statements w f.0) f.1 h.result
 
 -- What was reached is well formed, and so are the instances.
 pub record Reaches (m : ℕ) (tops xs : List ℕ) (r : Components.Reached) : Type 0 where
@@ -153,15 +121,15 @@ behind_one_more xs (Var v ∷ ms) d = behind_one_more (v.name.id ∷ xs) ms d
 behind_one_more xs (Run c ∷ ms) d = behind_one_more xs ms d
 
 -- Types that are emitted.
-emitted_known : (m : ℕ) (o : Option Ty) → KnownType m o → AllTypes m (Components.emitted o)
+pub emitted_known : (m : ℕ) (o : Option Ty) → KnownType m o → AllTypes m (Components.emitted o)
 emitted_known m None h = tt
 emitted_known m (Some t) h = (h, tt)
 
-first_known : (m : ℕ) (ts : List Ty) → AllTypes m ts → KnownType m (Components.first_of ts)
+pub first_known : (m : ℕ) (ts : List Ty) → AllTypes m ts → KnownType m (Components.first_of ts)
 first_known m [] h = tt
 first_known m (t ∷ ts) h = h.0
 
-link_known : (m : ℕ) (o : Option Ty) → KnownType m o → StructsBefore m (Components.link_type o).base
+pub link_known : (m : ℕ) (o : Option Ty) → KnownType m o → StructsBefore m (Components.link_type o).base
 link_known m None h = tt
 link_known m (Some t) h = h
 
@@ -318,7 +286,7 @@ mutual
   comp_forms m tops xs mk g n a (Do b p) is r low high all w clear up known well h =
       let t = first_fine (do_body g b) (Components.do_of p is) r h in
       let f : FormedBody m xs t.0.what = do_body_forms m xs g low high b t.0 w.fit clear up t.1 in
-      reaches m tops xs (Do t.0.what p) None (Some t.0.ty) is r well f tt (body_known m xs g t.0.ty t.0.what w f (do_body_sound g b t.0 t.1))
+      reaches m tops xs (Do t.0.what p) None (Some t.0.ty) is r well f tt (body_known m xs g t.0.ty t.0.what (knows m g w) f (do_body_sound g b t.0 t.1))
       (same_fine (Components.reached (Do t.0.what p) None (Some t.0.ty) is) r t.2)
   comp_forms m tops xs mk g n a (Repeat' _ (more_of-Comp c end_of-Comp) p) is r low high all w clear up known well h =
       let s = first_fine (Components.comp mk g n a c is) (Components.repeat_of p) r h in

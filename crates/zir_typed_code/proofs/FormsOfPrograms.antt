@@ -2,11 +2,9 @@
 use Rattle.std.specs.Prelude.{◌≡◌, refl, ◌≤◌, ◌<◌, ◌+◌, ℕ, suc, List, [], ◌∷◌, ◌++◌, length, Bool, true, false, nat_eq, if◌then◌else◌, Option, Some, None}
 use Rattle.std.proofs.Common.{ap, ◌∙◌, sym, subst, arith}
 use Rattle.zir_tree.specs.declared.ident.Ident.{Ident}
-use Rattle.zir_tree.specs.declared.types.Base.TheVariants.{Unit as UnitTy}
 use Rattle.zir_tree.specs.declared.types.Ty.{Ty}
 use Rattle.zir_tree.specs.declared.types.Field.{Field}
 use Rattle.zir_tree.specs.declared.types.FieldDef.{FieldDef}
-use Rattle.zir_tree.specs.declared.types.StructDef.{StructDef}
 use Rattle.zir_tree.specs.declared.types.TypeExpr.{TypeExpr}
 use Rattle.zir_tree.specs.declared.stmt.Var.{Var}
 use Rattle.zir_tree.specs.declared.program.Struct.{Struct}
@@ -27,18 +25,16 @@ use Rattle.zir_types.specs.Walk.{Walk, Fine, and_then}
 use Rattle.zir_types.specs.Scope.{Visible, declare, written}
 use Rattle.zir_types.specs.Expressions.{all_same}
 use Rattle.zir_types.specs.Statements.{var, seen_var, fun_body, no_heading, heading}
-use Rattle.zir_types.specs.Components.{Maker, Makers, comp, emitted}
+use Rattle.zir_types.specs.Components.{Makers, comp, emitted}
 use Rattle.zir_types.specs.Programs
 use Rattle.zir_types.proofs.Fine.{first_fine, held, same_fine}
-use Rattle.zir_names.specs.declared.program.Named.{Named}
-use Rattle.zir_shapes.specs.Shapes.{StructsBefore, FieldsBefore, OrderedFrom, Ordered}
+use Rattle.zir_shapes.specs.Shapes.{StructsBefore, FieldsBefore, OrderedFrom}
 use Rattle.zir_sound.specs.Laws.{is_in}
 use Rattle.zir_typed_code.specs.Forming.{KnownIfAny, FormedVar, FormedParams, FormedVars, FormedFunction, FormedFunctions, FormedBody, WellFormed, with_params, with_vars}
 use Rattle.zir_typed_code.specs.Walked.{TypedAreWellFormed}
-use Rattle.zir_typed_code.proofs.Known.{before_more}
 use Rattle.zir_typed_code.proofs.Rising.{RisesAll, RisesComp, RisesParams, RisesDecls, Clear, clear_part, clear_more, clear_ahead}
 use Rattle.zir_typed_code.proofs.Numbering.{Numbered, names_rise}
-use Rattle.zir_typed_code.proofs.Writing.{AllSeen, AllTypes, AllResults, Sees, VarForms, HeadForms, HeadKnown, WrittenKnown, defs_length, heading_forms}
+use Rattle.zir_typed_code.proofs.Writing.{AllSeen, AllTypes, Sees, VarForms, HeadForms, HeadKnown, WrittenKnown, defs_length, heading_forms}
 use Rattle.zir_typed_code.proofs.Writing.{heading_known, results_more, sees_more, var_forms, written_known}
 use Rattle.zir_typed_code.proofs.Forms.{fun_body_forms}
 use Rattle.zir_typed_code.proofs.FormsOfComponents.{AllForm, MakesForms, Reaches, comp_forms}
@@ -279,7 +275,7 @@ function_stands m tops a k c d e f low high ps ss clear st h =
     let res : ResultKnown m r.0 = result_known m d.scope.shapes f.result r.0 st.sees.fit r.1 in
     let formed : FormedBody m (with_params tops t.0.fields) b.0.what =
     fun_body_forms m (with_params tops t.0.fields) (declare t.0.seen d.scope) k c (Programs.written_ty r.0) f.at f.body b.0 st.sees.fit head.clear ss b.1 in
-    subst (Stands m tops c) (same_fine all e b.2)
+    subst (Stands m tops c) {x = all} (same_fine all e b.2)
     (record {
       sees = record {
         ordered = st.sees.ordered;
@@ -407,7 +403,7 @@ program_forms p core n h =
     let q : Reaches m tops tops r.0 =
     comp_forms m tops tops mk d.0.scope 0 a.0 p.main [] r.0 n.top n.high (all_make m tops d.0.scope d.0.comps st.sees st.comps) st.sees (st.ahead n.high) n.main
     known tt r.1 in
-    subst WellFormed c.1
+    subst WellFormed {x = made} c.1
     (record {
       structs = st.sees.ordered;
       variables = st.variables;

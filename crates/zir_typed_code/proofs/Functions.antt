@@ -1,49 +1,42 @@
 -- Typed functions are what code asks for, and are found by their places.
-use Rattle.std.specs.Prelude.{◌≡◌, refl, ◌≤◌, ◌<◌, ◌+◌, ◌⊎◌, max, ℕ, zero, suc, List, [], ◌∷◌, ◌++◌, map, Bool, true, false, nat_eq, Option, Some, None, slice_get, length}
+use Rattle.std.specs.Prelude.{◌≡◌, refl, ◌≤◌, ◌<◌, ◌⊎◌, max, ℕ, zero, suc, List, [], ◌∷◌, ◌++◌, map, Bool, true, false, nat_eq, Option, Some, None, slice_get, length}
 use Rattle.std.proofs.Common.{ap, ◌∙◌, sym, subst, arith, inl, inr}
-use Rattle.std.proofs.lemmas.Bool.{eqb-true, eq-eqb, ne_eqb}
+use Rattle.std.proofs.lemmas.Bool.{eq-eqb, ne_eqb}
 use Rattle.std.proofs.lemmas.List.{append-nil, append_assoc}
 use Rattle.zir_tree.specs.declared.types.Ty.{Ty}
-use Rattle.zir_tree.specs.declared.types.Field.{Field}
 use Rattle.zir_tree.specs.declared.types.TypeExpr.{TypeExpr}
 use Rattle.zir_tree.specs.declared.types.StructDef.{StructDef}
-use Rattle.zir_tree.specs.declared.expr.Expr.{Expr}
 use Rattle.zir_tree.specs.declared.stmt.Stmt.{Stmt, Var as VarStmt, Assign, Call, Error, If', IfElse', While', For'}
 use Rattle.zir_tree.specs.declared.stmt.Return.{Return}
-use Rattle.zir_tree.specs.declared.stmt.Var.{Var}
 use Rattle.zir_tree.specs.declared.program.Function.{Function}
 use Rattle.zir_tree.specs.declared.program.Core.{Core}
-use Rattle.zir_types.specs.declared.scope.Shape.{Shape}
 use Rattle.zir_types.specs.declared.scope.Signature.{Signature}
 use Rattle.zir_types.specs.Scope.{Visible, declare}
 use Rattle.zir_types.specs.Programs.{defs_of}
-use Rattle.zir_meaning.specs.Values.{type_of}
 use Rattle.zir_meaning.specs.Functions.{pick}
-use Rattle.zir_shapes.specs.Shapes.{StructsBefore, Ordered}
+use Rattle.zir_shapes.specs.Shapes.{StructsBefore}
 use Rattle.zir_code.specs.declared.scope.Holder.{Holder}
 use Rattle.zir_code.specs.declared.scope.Signature as code
 use Rattle.zir_code.specs.Scopes.{Scope}
 use Rattle.zir_code.specs.Types.{cells_for, size_in}
-use Rattle.zir_code.specs.Peaks.{peak_of}
 use Rattle.zir_code.specs.Statements.{scope_after, free_after}
-use Rattle.zir_code.specs.Fine.{Fits}
-use Rattle.zir_code.specs.Needs.{stmt_peak, all_peak, result_peak, body_needs}
-use Rattle.zir_code.specs.Bodies.{inside, cells_of_all, scope_after_all, free_after_all, FineAll, ResultFits, ParametersKnown, FineBody}
+use Rattle.zir_code.specs.Needs.{all_peak, result_peak}
+use Rattle.zir_code.specs.Bodies.{inside, cells_of_all, scope_after_all, free_after_all, ResultFits, FineBody}
 use Rattle.zir_code.specs.Program.{at_top, one_more_signature, more_signatures}
 use Rattle.zir_code.proofs.TypesFound.{types_found}
 use Rattle.zir_compile.specs.Signing.{type_given, cells_of, is_signed, signature_in, signature_if, signature_of, signatures_after, signatures_of, no_signature}
 use Rattle.zir_compile.specs.Signing.{FineIn, FineAfter}
-use Rattle.zir_eval.specs.Opening.{top_holders, program_scope}
+use Rattle.zir_eval.specs.Opening.{program_scope}
 use Rattle.zir_sound.specs.Statements.{AreStmtsOf, IsBody, Returns, param_of}
 use Rattle.zir_sound.specs.Statements as sound
 use Rattle.zir_sound.specs.Cores.{Begins, IsTop, IsFunction, AreFunctions, IsSound, result_type}
 use Rattle.zir_sound.specs.Cores as cores
 use Rattle.zir_sound.proofs.Fronts.{begins_self}
-use Rattle.zir_typed_code.specs.Forming.{KnownIfAny, FilledReturn, FormedAll, FormedParams, FormedFunction, FormedFunctions, FormedVars, WellFormed, with_vars, with_params, top_numbers, numbers_behind}
+use Rattle.zir_typed_code.specs.Forming.{KnownIfAny, FilledReturn, FormedFunction, FormedFunctions, WellFormed, with_params, top_numbers, numbers_behind}
 use Rattle.zir_typed_code.specs.Scopes.{MayCall, SameScope}
 use Rattle.zir_typed_code.specs.Programs.{AllSigned, IsSigned, SignedAt, tops_of}
 use Rattle.zir_typed_code.proofs.Expressions.{expression_fits}
-use Rattle.zir_typed_code.proofs.Coming.{parameters_come}
+use Rattle.zir_typed_code.proofs.Coming.{parameters_come, params_known}
 use Rattle.zir_typed_code.proofs.Statements.{statements_fit, scopes_go_on}
 use Rattle.zir_typed_code.proofs.Tops.{MayCallAll, top_same, less_seen}
 
@@ -64,10 +57,6 @@ all_within g d (s ∷ ss) =
     let one = free_within g d s in
     let more = all_within (scope_after g d s) (free_after g d s) ss in
     omega arith
-
-params_known : (g : Scope) (xs : List ℕ) (ps : List Field) → FormedParams (length g.structs) xs ps → ParametersKnown g ps
-params_known g xs [] f = tt
-params_known g xs (p ∷ ps) f = (f.1, params_known g (p.name.id ∷ xs) ps f.2)
 
 result_fits : (xs : List ℕ) (v : Visible) (g : Scope) (n d : ℕ) → SameScope xs v g n → (t : Ty) (r : Option Return) → FilledReturn r → Returns v t r →
     result_peak g d r ≤ n → ResultFits g d n t r

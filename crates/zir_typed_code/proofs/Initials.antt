@@ -1,5 +1,5 @@
 -- Initial values of top variables are what code asks for, and the types of a well formed core are known.
-use Rattle.std.specs.Prelude.{◌≡◌, refl, ◌≤◌, ◌+◌, max, ℕ, List, [], ◌∷◌, ◌++◌, map, false, if◌then◌else◌, nat_eq, Option, Some, None, length}
+use Rattle.std.specs.Prelude.{◌≡◌, refl, ◌≤◌, max, ℕ, List, [], ◌∷◌, ◌++◌, map, false, if◌then◌else◌, nat_eq, Option, Some, None, length}
 use Rattle.std.proofs.Common.{ap, ◌∙◌, sym, subst, arith}
 use Rattle.std.proofs.lemmas.Bool.{eq-eqb}
 use Rattle.std.proofs.lemmas.List.{append_assoc}

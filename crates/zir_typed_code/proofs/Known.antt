@@ -1,5 +1,5 @@
 -- Types of typed expressions name structs that are there.
-use Rattle.std.specs.Prelude.{◌≡◌, refl, ◌≤◌, ◌<◌, ◌+◌, ◌⊎◌, ℕ, zero, suc, List, [], ◌∷◌, true, Option, Some, None, slice_get, length}
+use Rattle.std.specs.Prelude.{◌≡◌, refl, ◌≤◌, ◌<◌, ◌+◌, ◌⊎◌, ℕ, zero, suc, List, [], ◌∷◌, Option, Some, None, slice_get, length}
 use Rattle.std.proofs.Common.{ap, ◌∙◌, sym, subst, arith, inl, inr}
 use Rattle.zir_tree.specs.declared.types.Base.{Base}
 use Rattle.zir_tree.specs.declared.types.Base.TheVariants.{Unit as UnitTy, Bit as BitTy, Bool as BoolTy, Int8, Int16, Int32, Int64, Complex16}
@@ -24,11 +24,11 @@ use Rattle.zir_sound.specs.Cores.{Begins}
 use Rattle.zir_types.specs.Typing.{row_length}
 use Rattle.zir_types.specs.Typing as types
 use Rattle.zir_shapes.specs.Shapes.{StructsBefore, FieldsBefore, Ordered}
-use Rattle.zir_shapes.specs.Offsets.{fields_in, type_in, field_type}
+use Rattle.zir_shapes.specs.Offsets.{fields_in, type_in}
 use Rattle.zir_shapes.proofs.Growing.{ordered-at}
 use Rattle.zir_code.specs.Scopes.{Scope}
 use Rattle.zir_code.specs.Types.{cells_for, size_in}
-use Rattle.zir_code.specs.Typing.{IsWholeType, IsComplexType, IsScalar, OperatorFits, PrefixFits, ConversionFits, BasePartFits, PartFits}
+use Rattle.zir_code.specs.Typing.{IsWholeType, IsComplexType, OperatorFits, PrefixFits, ConversionFits, BasePartFits, PartFits}
 use Rattle.zir_code.proofs.TypesFound.{types_found}
 use Rattle.zir_typed_code.specs.Forming.{IsFilled, AreFilled}
 use Rattle.zir_typed_code.specs.Scopes.{Finds, MayCall, SameScope}

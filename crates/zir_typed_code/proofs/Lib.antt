@@ -7,10 +7,13 @@ pub mod Statements
 pub mod Tops
 pub mod Functions
 pub mod Initials
+pub mod Signed
 pub mod Rising
 pub mod Numbering
 pub mod Filled
 pub mod Writing
 pub mod Forms
+pub mod KnownBodies
 pub mod FormsOfComponents
+pub mod KnownComponents
 pub mod FormsOfPrograms

@@ -1,15 +1,13 @@
 -- Once names are resolved, numbers rise.
-use Rattle.std.specs.Prelude.{◌≡◌, refl, ◌≤◌, ◌<◌, ◌+◌, ℕ, suc, List, [], ◌∷◌, length, Option}
-use Rattle.std.proofs.Common.{ap, ◌∙◌, sym, subst, arith}
+use Rattle.std.specs.Prelude.{◌≡◌, refl, ◌≤◌, ◌<◌, ℕ, suc, List, [], ◌∷◌, length}
+use Rattle.std.proofs.Common.{ap, subst, arith}
 use denote.Hole.Carrier.{hidden}
 use Rattle.zir_tree.specs.declared.ident.Ident.{Ident}
 use Rattle.zir_tree.specs.declared.place.Place.{Place}
 use Rattle.zir_tree.specs.declared.types.Field.{Field}
-use Rattle.zir_tree.specs.declared.types.TypeExpr.{TypeExpr}
 use Rattle.zir_tree.specs.declared.expr.Expr.{Expr}
 use Rattle.zir_tree.specs.declared.stmt.Var.{Var as Variable}
 use Rattle.zir_tree.specs.declared.stmt.Body.{Body}
-use Rattle.zir_tree.specs.declared.stmt.Return.{Return}
 use Rattle.zir_tree.specs.declared.stmt.Stmt.{Stmt, Row_of-Stmt, end_of-Stmt, more_of-Stmt}
 use Rattle.zir_tree.specs.declared.stmt.Stmt as stmt
 use Rattle.zir_tree.specs.declared.stmt.Stmt.TheBlock.{shape-the_row-Stmt-0, hidden-the_row-Stmt-0}

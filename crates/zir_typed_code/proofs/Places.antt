@@ -1,7 +1,7 @@
 -- What stands at a place for typing stands there for code.
-use Rattle.std.specs.Prelude.{◌≡◌, refl, ℕ, zero, suc, ◌+◌, List, [], ◌∷◌, ◌++◌, Bool, true, false, if◌then◌else◌, map, Option, Some, None, slice_get}
+use Rattle.std.specs.Prelude.{◌≡◌, refl, ℕ, zero, suc, ◌+◌, List, [], ◌∷◌, Bool, true, false, if◌then◌else◌, Option, Some, None, slice_get}
 use Rattle.std.specs.Str.{bytes_eq}
-use Rattle.std.proofs.Common.{ap, ◌∙◌, sym, subst, arith}
+use Rattle.std.proofs.Common.{ap, ◌∙◌, sym, arith}
 use Rattle.zir_tree.specs.declared.types.Base.{Base}
 use Rattle.zir_tree.specs.declared.types.Base.TheVariants.{Unit as UnitTy, Bit as BitTy, Bool as BoolTy, Int8, Int16, Int32, Int64, Complex16}
 use Rattle.zir_tree.specs.declared.types.Base.TheVariants.{Complex32, Struct as StructTy}
@@ -10,7 +10,7 @@ use Rattle.zir_tree.specs.declared.types.FieldDef.{FieldDef}
 use Rattle.zir_tree.specs.declared.types.StructDef.{StructDef}
 use Rattle.zir_types.specs.declared.scope.Shape.{Shape}
 use Rattle.zir_types.specs.declared.typed.Selected.{Selected}
-use Rattle.zir_types.specs.Kinds.{scalar, half_of}
+use Rattle.zir_types.specs.Kinds.{scalar}
 use Rattle.zir_types.specs.Scope.{field_from, field_of, half_part, part_of_base, part_if, part_in}
 use Rattle.zir_types.specs.Programs.{defs_of}
 use Rattle.zir_shapes.specs.Offsets.{fields_in, fields_of, type_in, field_type}

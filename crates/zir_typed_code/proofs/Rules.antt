@@ -1,6 +1,6 @@
 -- The rules of operators, prefixes and conversions are those of code.
-use Rattle.std.specs.Prelude.{◌≡◌, refl, ℕ, ℤ, Bool, true, false, ◌&&◌, ◌||◌, ◌⊎◌, Option, Some, None}
-use Rattle.std.proofs.Common.{ap, ◌∙◌, sym, subst, inl, inr}
+use Rattle.std.specs.Prelude.{◌≡◌, refl, ℤ, Bool, true, false, ◌&&◌, ◌||◌, ◌⊎◌, Some}
+use Rattle.std.proofs.Common.{sym, inl, inr}
 use Rattle.zir_tree.specs.declared.types.Base.{Base}
 use Rattle.zir_tree.specs.declared.types.Base.TheVariants.{Unit as UnitTy, Bit as BitTy, Bool as BoolTy, Int8, Int16, Int32, Int64, Complex16}
 use Rattle.zir_tree.specs.declared.types.Base.TheVariants.{Complex32, Struct as StructTy}

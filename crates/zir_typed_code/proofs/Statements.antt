@@ -1,11 +1,9 @@
 -- Typed statements are what code asks for.
-use Rattle.std.specs.Prelude.{◌≡◌, refl, ◌≤◌, ◌+◌, max, ℕ, List, [], ◌∷◌, ◌++◌, Bool, true, false, Option, Some, None, slice_get, length}
-use Rattle.std.proofs.Common.{ap, ◌∙◌, sym, subst, arith}
+use Rattle.std.specs.Prelude.{◌≡◌, refl, ◌≤◌, ◌+◌, max, ℕ, List, [], ◌∷◌, Bool, true, false, Option, Some, None, length}
+use Rattle.std.proofs.Common.{ap, sym, subst, arith}
 use Rattle.std.proofs.lemmas.List.{append-nil}
-use Rattle.zir_tree.specs.declared.types.Base.{Base}
 use Rattle.zir_tree.specs.declared.types.Base.TheVariants.{Bool as BoolTy, Int32}
 use Rattle.zir_tree.specs.declared.types.Ty.{Ty}
-use Rattle.zir_tree.specs.declared.types.StructDef.{StructDef}
 use Rattle.zir_tree.specs.declared.ident.Ident.{Ident}
 use Rattle.zir_tree.specs.declared.expr.Expr.{Expr}
 use Rattle.zir_tree.specs.declared.stmt.Access.{Access}
@@ -13,20 +11,17 @@ use Rattle.zir_tree.specs.declared.stmt.Access.TheVariants.{Index, Slice, Part}
 use Rattle.zir_tree.specs.declared.stmt.Stmt.{Stmt, Var as VarStmt, Assign, Call, Error, If', IfElse', While', For', Row_of-Stmt, end_of-Stmt, more_of-Stmt}
 use Rattle.zir_tree.specs.declared.stmt.Return.{Return}
 use Rattle.zir_tree.specs.declared.stmt.Body.{Body}
-use Rattle.zir_types.specs.declared.scope.Signature.{Signature}
 use Rattle.zir_types.specs.Kinds.{scalar, arr}
-use Rattle.zir_types.specs.Scope.{Visible, declare, part_in}
+use Rattle.zir_types.specs.Scope.{Visible, declare}
 use Rattle.zir_types.specs.Statements as seen
 use Rattle.zir_types.specs.Typing as types
 use Rattle.zir_meaning.specs.Values.{type_of}
 use Rattle.zir_meaning.specs.Functions.{pick}
-use Rattle.zir_shapes.specs.Shapes.{StructsBefore}
-use Rattle.zir_code.specs.declared.scope.Holder.{Holder}
 use Rattle.zir_code.specs.Scopes.{Scope, variable}
-use Rattle.zir_code.specs.Types.{element_type, part_type, result_type, cells_for, size_in}
+use Rattle.zir_code.specs.Types.{element_type, result_type, cells_for, size_in}
 use Rattle.zir_code.specs.Peaks.{behind, needs_of, peak_of, peak_of_all}
-use Rattle.zir_code.specs.Typing.{PartFits, Has}
-use Rattle.zir_code.specs.Statements.{with_local, with_index, scope_after, free_after, has_index, along_peak, storing_peak}
+use Rattle.zir_code.specs.Typing.{PartFits}
+use Rattle.zir_code.specs.Statements.{with_index, scope_after, free_after, has_index, along_peak, storing_peak}
 use Rattle.zir_code.specs.Fine.{Fits, InitialFits, AlongFits, Fine, FineRow}
 use Rattle.zir_code.specs.Needs.{initial_peak, stmt_peak, row_peak, all_peak}
 use Rattle.zir_code.specs.Bodies.{scope_after_all, free_after_all, FineAll}

@@ -1,8 +1,7 @@
 -- Top variables are found by code as they are seen.
-use Rattle.std.specs.Prelude.{◌≡◌, refl, ◌≤◌, ◌+◌, ℕ, zero, suc, List, [], ◌∷◌, ◌++◌, map, Bool, true, false, ◌||◌, if◌then◌else◌, nat_eq, Option, Some, None, slice_get, length}
-use Rattle.std.proofs.Common.{ap, ◌∙◌, sym, subst, arith, inl, inr}
-use Rattle.std.proofs.lemmas.Bool.{eqb-true, eq-eqb, ne_eqb}
-use Rattle.std.proofs.lemmas.List.{append-nil, append_assoc}
+use Rattle.std.specs.Prelude.{◌≡◌, refl, ◌+◌, ℕ, List, [], ◌∷◌, ◌++◌, map, Bool, true, false, ◌||◌, if◌then◌else◌, nat_eq, Option, Some, None, slice_get, length}
+use Rattle.std.proofs.Common.{ap, ◌∙◌, sym, subst, inl, inr}
+use Rattle.std.proofs.lemmas.Bool.{eq-eqb, ne_eqb}
 use Rattle.zir_tree.specs.declared.types.Ty.{Ty}
 use Rattle.zir_tree.specs.declared.types.StructDef.{StructDef}
 use Rattle.zir_tree.specs.declared.stmt.Var.{Var}
@@ -19,16 +18,15 @@ use Rattle.zir_code.specs.declared.scope.Holder.{Holder}
 use Rattle.zir_code.specs.declared.scope.Signature as code
 use Rattle.zir_code.specs.Scopes.{Scope, found_among}
 use Rattle.zir_code.specs.Program.{at_top}
-use Rattle.zir_code.specs.Typing.{HolderFits}
 use Rattle.zir_code.specs.Fine.{Absent, Sole}
 use Rattle.zir_eval.specs.Opening.{top_holder, top_holders, cells_for_var}
 use Rattle.zir_flow.specs.Fitting.{Distinct}
 use Rattle.zir_sound.specs.Statements.{seen_of}
-use Rattle.zir_sound.specs.Cores.{Begins, IsTop}
+use Rattle.zir_sound.specs.Cores.{Begins}
 use Rattle.zir_sound.specs.Laws.{is_in}
 use Rattle.zir_sound.proofs.Fronts.{begins_trans, get_begins}
 use Rattle.zir_typed_code.specs.Forming.{FormedVars, with_vars}
-use Rattle.zir_typed_code.specs.Scopes.{Finds, MayCall, IsNew, SameScope}
+use Rattle.zir_typed_code.specs.Scopes.{Finds, MayCall, SameScope}
 use Rattle.zir_typed_code.proofs.Coming.{neither}
 
 -- A number that is in scope is none of those that come behind.

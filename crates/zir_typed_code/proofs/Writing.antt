@@ -2,7 +2,7 @@
 use Rattle.std.specs.Prelude.{◌≡◌, refl, ◌≤◌, ◌<◌, ◌+◌, ℕ, suc, List, [], ◌∷◌, ◌++◌, length, Bool, true, false, nat_eq, if◌then◌else◌, Option, Some, None}
 use Rattle.std.specs.Prelude.{slice_get}
 use Rattle.std.specs.Prelude.{zero}
-use Rattle.std.proofs.Common.{ap, ◌∙◌, sym, subst, arith}
+use Rattle.std.proofs.Common.{ap, subst, arith}
 use Rattle.zir_tree.specs.declared.ident.Ident.{Ident}
 use Rattle.zir_tree.specs.declared.place.Place.{Place}
 use Rattle.zir_tree.specs.declared.types.Base.{Base}
@@ -11,8 +11,6 @@ use Rattle.zir_tree.specs.declared.types.Base.TheVariants.{Complex32, Struct as 
 use Rattle.zir_tree.specs.declared.types.Ty.{Ty}
 use Rattle.zir_tree.specs.declared.types.TypeExpr.{TypeExpr}
 use Rattle.zir_tree.specs.declared.types.Field.{Field}
-use Rattle.zir_tree.specs.declared.types.FieldDef.{FieldDef}
-use Rattle.zir_tree.specs.declared.types.StructDef.{StructDef}
 use Rattle.zir_tree.specs.declared.expr.Expr.{Expr}
 use Rattle.zir_tree.specs.declared.stmt.Var.{Var}
 use Rattle.zir_types.specs.declared.scope.Seen.{Seen}
@@ -27,16 +25,15 @@ use Rattle.zir_types.specs.Walk.{Fine, and_then}
 use Rattle.zir_types.specs.Kinds.{same_ty}
 use Rattle.zir_types.specs.Scope.{Visible, Placed, declare, variable, type_in, shape_from, plain, struct_base, base_in, lengths_of, written, written_if}
 use Rattle.zir_types.specs.Expressions.{expr, wanted}
-use Rattle.zir_types.specs.Statements.{initial, of_type, var, var_of, seen_var, heading, one_more_param}
+use Rattle.zir_types.specs.Statements.{initial, of_type, var, var_of, heading, one_more_param}
 use Rattle.zir_types.specs.Programs.{defs_of}
-use Rattle.zir_types.specs.Typing.{Has}
 use Rattle.zir_types.proofs.Fine.{first_fine, held, same_fine}
 use Rattle.zir_types.proofs.Sound.{sound}
-use Rattle.zir_shapes.specs.Shapes.{StructsBefore, FieldsBefore, OrderedFrom, Ordered}
+use Rattle.zir_shapes.specs.Shapes.{StructsBefore, Ordered}
 use Rattle.zir_sound.specs.Laws.{is_in}
 use Rattle.zir_sound.proofs.Fronts.{begins_self}
-use Rattle.zir_typed_code.specs.Forming.{IsKnown, KnownType, FilledIfAny, FormedVar, FormedParams, with_params}
-use Rattle.zir_typed_code.proofs.Known.{Knows, before_more, has_known}
+use Rattle.zir_typed_code.specs.Forming.{IsKnown, FilledIfAny, FormedVar, FormedParams, with_params}
+use Rattle.zir_typed_code.proofs.Known.{Knows, has_known}
 use Rattle.zir_typed_code.proofs.Rising.{RisesParams, Clear, clear_part, clear_more}
 use Rattle.zir_typed_code.proofs.Filled.{expr_fills}
 

@@ -1,11 +1,13 @@
 -- That what typing accepts is what the laws of code ask for: expressions, statements and bodies.
-use Rattle.std.specs.Prelude.{◌≡◌, ◌≤◌, ◌+◌, ℕ, List, [], ◌∷◌, map, max, false, Option, Some, None, length}
+use Rattle.std.specs.Prelude.{◌≡◌, ◌≤◌, ◌+◌, ℕ, List, [], ◌∷◌, map, false, Option, Some, None, length}
 use Rattle.zir_tree.specs.declared.types.Ty.{Ty}
 use Rattle.zir_tree.specs.declared.types.Field.{Field}
 use Rattle.zir_tree.specs.declared.expr.Expr.{Expr}
 use Rattle.zir_tree.specs.declared.stmt.Stmt.{Stmt}
 use Rattle.zir_tree.specs.declared.stmt.Return.{Return}
 use Rattle.zir_tree.specs.declared.stmt.Body.{Body}
+use Rattle.zir_tree.specs.declared.comp.Comp.{Comp}
+use Rattle.zir_tree.specs.declared.program.Instance.{Instance}
 use Rattle.zir_tree.specs.declared.types.Base.TheVariants.{Unit as UnitTy}
 use Rattle.zir_types.specs.Scope.{Visible, declare, variable}
 use Rattle.zir_types.specs.Typing as types
@@ -13,15 +15,17 @@ use Rattle.zir_shapes.specs.Shapes.{StructsBefore}
 use Rattle.zir_shapes.specs.Offsets.{plain_type as plain}
 use Rattle.zir_code.specs.Scopes.{Scope}
 use Rattle.zir_code.specs.Types.{cells_for, size_in}
-use Rattle.zir_code.specs.Peaks.{peak_of, peak_of_all}
+use Rattle.zir_code.specs.Peaks.{peak_of}
 use Rattle.zir_code.specs.Typing.{Has, AllFit}
 use Rattle.zir_code.specs.Statements.{with_local}
-use Rattle.zir_code.specs.Fine.{Fits, Absent}
+use Rattle.zir_code.specs.Fine.{Fits}
 use Rattle.zir_code.specs.Needs.{all_peak}
-use Rattle.zir_code.specs.Bodies.{inside, cells_of_all, scope_after_all, free_after_all, FineAll}
+use Rattle.zir_code.specs.Bodies.{inside, cells_of_all, scope_after_all, free_after_all, FineAll, ParametersKnown}
 use Rattle.zir_sound.specs.Statements.{AreStmtsOf, Each, IsBody, behind, param_of}
+use Rattle.zir_sound.specs.Components.{IsComp}
 use Rattle.zir_sound.specs.Laws.{is_in}
-use Rattle.zir_typed_code.specs.Forming.{IsFilled, AllFilled, FormedAll, FormedBody, FormedParams, numbers_behind, with_params}
+use Rattle.zir_typed_code.specs.Forming.{IsFilled, AllFilled, KnownType, FormedAll, FormedBody, FormedParams, FormedComp, FormedInstances}
+use Rattle.zir_typed_code.specs.Forming.{numbers_behind, with_params}
 use Rattle.zir_typed_code.specs.Scopes.{SameScope}
 
 -- A typed expression has its type in code too, where its array literals have elements.
@@ -86,3 +90,15 @@ BodiesFit =
     (d : ℕ) (t : Ty) (b : Body) → FormedBody (length g.structs) xs b → IsBody v t b → all_peak g d b.statements ≤ n →
     return_peak (scope_after_all g d b.statements) (free_after_all g d b.statements) b.result ≤ n →
     FineAll g d n b.statements × ValueFits (scope_after_all g d b.statements) (free_after_all g d b.statements) n t b.result
+
+-- Well formed parameters are known to code.
+abbrev pub ParametersAreKnown : Type 0
+ParametersAreKnown = (g : Scope) (xs : List ℕ) (ps : List Field) → FormedParams (length g.structs) xs ps → ParametersKnown g ps
+
+-- What a typed component emits, and its value, name structs that are there, where what it reads does and its instances are well formed.
+abbrev pub ComponentsAreKnown : Type 0
+ComponentsAreKnown =
+    (xs tops : List ℕ) (v : Visible) (g : Scope) (n : ℕ) → SameScope xs v g n →
+    (is : List Instance) → FormedInstances (length g.structs) tops is →
+    (a : Ty) (c : Comp) (out val : Option Ty) → StructsBefore (length g.structs) a.base → FormedComp (length g.structs) xs c → IsComp v is a c out val →
+    KnownType (length g.structs) out × KnownType (length g.structs) val

@@ -1,5 +1,5 @@
 -- That what typing accepts is what the laws of code ask for: the top of a program and its functions.
-use Rattle.std.specs.Prelude.{◌≡◌, ◌≤◌, ℕ, List, [], ◌∷◌, Option, Some, None, slice_get}
+use Rattle.std.specs.Prelude.{◌≡◌, ◌<◌, ◌≤◌, ℕ, length, List, [], ◌∷◌, Option, Some, None, slice_get}
 use Rattle.zir_tree.specs.declared.program.Function.{Function}
 use Rattle.zir_tree.specs.declared.program.Core.{Core}
 use Rattle.zir_code.specs.declared.scope.Holder.{Holder}
@@ -26,6 +26,14 @@ tops_of core = top_holders core.structs 0 core.variables
 -- 32 bits hold all numbers of the code of each function of a core, so that each has a signature.
 abbrev pub IsSigned : Core → Type 0
 IsSigned core = AllSigned (signatures_of core.structs (tops_of core) core.functions)
+
+-- Each function of a core is found at its place.
+abbrev pub AllFound : Core → Type 0
+AllFound core = (k : ℕ) → k < length core.functions → (made : Signature) × ((program_scope core).funs k ≡ Some made)
+
+-- Where each function is found, each has a signature.
+abbrev pub FoundAreSigned : Type 0
+FoundAreSigned = (core : Core) → AllFound core → IsSigned core
 
 -- Code has at the top of a program all that is seen there, in any number of cells.
 abbrev pub TopIsSame : Type 0

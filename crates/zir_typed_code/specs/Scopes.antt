@@ -1,5 +1,5 @@
 -- What it is for code to have in scope what a typed part of a program sees.
-use Rattle.std.specs.Prelude.{◌≡◌, ℕ, List, [], ◌∷◌, false, Some, slice_get, length}
+use Rattle.std.specs.Prelude.{◌≡◌, ℕ, List, false, Some, slice_get, length}
 use Rattle.zir_tree.specs.declared.types.Ty.{Ty}
 use Rattle.zir_types.specs.declared.scope.Signature.{Signature}
 use Rattle.zir_types.specs.Scope.{Visible, type_in}

@@ -2,8 +2,9 @@
 //! wherever code has in scope what they see.
 #![tactic(auto)]
 
-ghost use Rattle.zir_typed_code.specs.Laws.{BodiesFit, ExpressionsFit, ListsFit, LocalsComeIn, ParametersComeIn, ScopesGoOn, StatementsFit, ValuesAreKnown};
-ghost use Rattle.zir_typed_code.specs.Programs.{FunctionsFit, InitialsFit, SignaturesAreFound, TopIsSame, TypesAreKnown};
+ghost use Rattle.zir_typed_code.specs.Laws.{BodiesFit, ComponentsAreKnown, ExpressionsFit, ListsFit, LocalsComeIn, ParametersAreKnown};
+ghost use Rattle.zir_typed_code.specs.Laws.{ParametersComeIn, ScopesGoOn, StatementsFit, ValuesAreKnown};
+ghost use Rattle.zir_typed_code.specs.Programs.{FoundAreSigned, FunctionsFit, InitialsFit, SignaturesAreFound, TopIsSame, TypesAreKnown};
 ghost use Rattle.zir_typed_code.specs.Walked.{TypedAreWellFormed};
 
 /// A typed expression has its type in code too.
@@ -31,6 +32,16 @@ pub fn parameters_come_in()
     ensures { ParametersComeIn }
 {}
 
+/// The parameters of a well formed function or instance are of known types.
+pub fn parameters_are_known()
+    ensures { ParametersAreKnown }
+{}
+
+/// What a typed component emits, and its value, are of known types.
+pub fn components_are_known()
+    ensures { ComponentsAreKnown }
+{}
+
 /// Typed statements are what code asks for.
 pub fn statements_fit()
     ensures { StatementsFit }
@@ -44,6 +55,11 @@ pub fn scopes_go_on()
 /// Typed bodies are what code asks for.
 pub fn bodies_fit()
     ensures { BodiesFit }
+{}
+
+/// Where each function of a program is found, each has a signature.
+pub fn found_are_signed()
+    ensures { FoundAreSigned }
 {}
 
 /// At the top of a program both sides have the same in scope.
