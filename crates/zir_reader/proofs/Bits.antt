@@ -1,6 +1,6 @@
 -- Numbers that stand in bits, from one on.
-use Rattle.std.proofs.Common.{ℕ, zero, suc, ◌+◌, ◌-◌, ◌*◌, ◌/◌, ◌%◌, ◌<◌, ◌≤◌, ◌≡◌, Bool, true, false, Option, Some, List, [], ◌∷◌, ◌++◌, length, length-append, length-drop, take, drop, refl, ap, sym, ◌∙◌, arith}
-use Rattle.std.proofs.lemmas.List.{append-nil, drop-append-le, drop-drop, take-append-le}
+use Rattle.std.proofs.Common.{ℕ, zero, suc, ◌+◌, ◌-◌, ◌*◌, ◌/◌, ◌%◌, ◌<◌, ◌≤◌, ◌≡◌, Bool, Some, List, [], ◌∷◌, ◌++◌, length, length-append, length-drop, take, drop, refl, ap, sym, ◌∙◌, arith}
+use Rattle.std.proofs.lemmas.List.{drop-append-le, drop-drop, take-append-le}
 use Rattle.std.proofs.Math.Nat.{div-eq_of_lt, div-eq-sub-div}
 use Rattle.std.proofs.Common.{add-one}
 use Rattle.std.specs.Prelude.{if◌then◌else◌, map}
@@ -8,11 +8,11 @@ use Rattle.zir_tree.specs.declared.format.Format.TheVariants.{Binary}
 use Rattle.zir_tree.specs.declared.types.Base.{Base}
 use Rattle.zir_tree.specs.declared.types.Base.TheVariants.{Unit as UnitTy, Bit, Bool as BoolTy, Int8, Int16, Int32, Int64, Complex16, Complex32, Struct}
 use Rattle.zir_meaning.specs.Items.{Item, pieces, width}
-use Rattle.zir_meaning.specs.Samples.{bit_items, bits_of, low_bits, number_at}
+use Rattle.zir_meaning.specs.Samples.{bit_items, bits_of, number_at}
 use Rattle.zir_samples.specs.declared.text.Front.{Front}
 use Rattle.zir_samples.specs.declared.text.Front.TheVariants.{Item as FrontItem, Nothing, Malformed}
 use Rattle.zir_samples.proofs.Spelling.{bits-append, length-bits_of}
-use Rattle.zir_reader.specs.Numbers.{BeginsWith, Decides, DecidesBits, Held, items_from}
+use Rattle.zir_reader.specs.Numbers.{Decides, DecidesBits, items_from}
 
 -- no number has more than 64 bits
 pub width-most : (base : Base) → width base ≤ 64

@@ -1,5 +1,5 @@
 -- Numbers that are gathered to elements, and what an element source has left behind them.
-use Rattle.std.proofs.Common.{ℕ, zero, suc, ◌+◌, ◌-◌, ◌*◌, ◌^◌, ◌<◌, ◌≤◌, ◌≡◌, ℤ, Bool, true, false, Option, Some, None, List, [], ◌∷◌, ◌++◌, length, length-append, length-set, set, take, drop, refl, ap, sym, subst, ◌∙◌, arith}
+use Rattle.std.proofs.Common.{ℕ, ◌+◌, ◌<◌, ◌≡◌, ℤ, true, Option, Some, None, List, [], ◌∷◌, ◌++◌, length, length-append, length-set, set, take, ap, sym, ◌∙◌, arith}
 use Rattle.std.proofs.lemmas.Bool.Decides.{nat_tests}
 use Rattle.std.proofs.lemmas.List.{length-take-le, take_all, take_more_set}
 use Rattle.std.specs.Prelude.{if◌then◌else◌, nat_eq}
@@ -10,7 +10,7 @@ use Rattle.zir_reader.specs.declared.numbers.Given.TheVariants.{Number}
 use Rattle.zir_reader.specs.declared.reader.Reader.{Reader}
 use Rattle.zir_reader.specs.Inputs.{Gets, Input}
 use Rattle.zir_reader.specs.Numbers.{GivesNext, Held, items_to_come}
-use Rattle.zir_reader.specs.Gathering.{gatherer_size, input_ahead, input_from, Pushes, told, with_element}
+use Rattle.zir_reader.specs.Gathering.{input_ahead, input_from, Pushes, told, with_element}
 use Rattle.zir_reader.specs.Reading.{left_with}
 
 -- the last number of an element makes it whole

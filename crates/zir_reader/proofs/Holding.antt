@@ -1,14 +1,13 @@
 -- The bytes that are held in a piece.
-use Rattle.std.proofs.Common.{ℕ, zero, suc, ◌+◌, ◌-◌, ◌*◌, ◌/◌, ◌%◌, ◌<◌, ◌≤◌, ◌≡◌, Bool, true, false, Option, Some, None, Ok, Err, Result, List, [], ◌∷◌, ◌++◌, length, length-append, length-drop, length-take, take, drop, refl, ap, sym, subst, ◌∙◌, ◌⊎◌, inl, inr, ⊎_elim, arith, append_assoc}
+use Rattle.std.proofs.Common.{ℕ, zero, suc, ◌+◌, ◌-◌, ◌/◌, ◌%◌, ◌<◌, ◌≤◌, ◌≡◌, Bool, false, Option, Some, None, Ok, List, [], ◌∷◌, ◌++◌, length, length-drop, length-take, take, drop, refl, ap, sym, subst, ◌∙◌, arith, append_assoc}
 use Rattle.std.proofs.lemmas.Bool.Decides.{nat_tests}
 use Rattle.std.proofs.lemmas.List.{append-nil, drop-drop, drop-take, take-append-drop}
 use Rattle.std.specs.Prelude.{if◌then◌else◌, nat_eq, slice_range}
 use Rattle.zir_tree.specs.declared.format.Format.{Format}
 use Rattle.zir_tree.specs.declared.format.Format.TheVariants.{Binary, Text}
 use Rattle.zir_tree.specs.declared.types.Base.{Base}
-use Rattle.zir_outside.specs.declared.Failed.{Failed}
 use Rattle.zir_outside.specs.Reads.{Reads}
-use Rattle.zir_reader.specs.Numbers.{after, bytes_taken, bytes_to_come, Fills, Held}
+use Rattle.zir_reader.specs.Numbers.{after, bytes_taken, Fills, Held}
 
 -- the bytes behind the first of a part
 slice-drop : (items : List ℕ) (at filled k : ℕ) → k ≤ length (slice_range items at filled) → slice_range items (at + k) filled ≡ drop k (slice_range items at filled)

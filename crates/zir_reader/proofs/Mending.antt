@@ -1,6 +1,6 @@
 -- What more bytes can make of the bytes in front of them: where they make an item, a digit does, or none is needed.
-use Rattle.std.proofs.Common.{ℕ, zero, suc, ◌+◌, ◌-◌, ◌*◌, ◌^◌, ◌<◌, ◌≤◌, ◌≡◌, ℤ, pos, negsuc, Bool, true, false, Option, Some, None, List, [], ◌∷◌, ◌++◌, length, length-append, refl, ap, sym, subst, ◌∙◌, ◌⊎◌, inl, inr, ⊎_elim, arith}
-use Rattle.std.proofs.lemmas.Bool.{and_cases, and_parts, and_right, cases_Bool, cases_lt, false≢true, or_parts, or_right}
+use Rattle.std.proofs.Common.{ℕ, zero, suc, ◌+◌, ◌-◌, ◌*◌, ◌^◌, ◌<◌, ◌≤◌, ◌≡◌, ℤ, pos, Bool, true, false, Option, Some, None, List, [], ◌∷◌, ◌++◌, length, length-append, refl, ap, sym, subst, ◌∙◌, ◌⊎◌, inl, inr, ⊎_elim, arith}
+use Rattle.std.proofs.lemmas.Bool.{and_cases, and_parts, and_right, cases_Bool, cases_lt, false≢true, or_parts}
 use Rattle.std.proofs.lemmas.Bool.Decides.{nat_tests}
 use Rattle.std.proofs.lemmas.List.{reverse-append}
 use Rattle.std.proofs.lemmas.List.Folds.{list_all-append}
@@ -9,7 +9,7 @@ use Rattle.std.specs.List.{list_all}
 use Rattle.std.specs.Prelude.{fold, if◌then◌else◌, is_none, is_some, nat_eq, nat_le, nat_lt, neg_ℤ, not, option_map, reverse, ◌&&◌, ◌||◌}
 use Rattle.zir_tree.specs.declared.types.Base.{Base}
 use Rattle.zir_tree.specs.declared.types.Base.TheVariants.{Unit as UnitTy, Bit, Bool as BoolTy, Int8, Int16, Int32, Int64, Complex16, Complex32, Struct}
-use Rattle.zir_meaning.specs.Items.{fits, Item}
+use Rattle.zir_meaning.specs.Items.{fits}
 use Rattle.zir_meaning.specs.Texts.{digits_number, is_blank, is_digit, is_end, item_before_end, item_of, may_go_on, skip_blanks, trimmed, written_number}
 use Rattle.zir_samples.specs.Reading.{in_range}
 use Rattle.zir_samples.proofs.Items.{as_item, item-long, item-short, open-digit, open-more}

@@ -1,9 +1,8 @@
 -- The elements of bytes have the shape of their type.
-use Rattle.std.proofs.Common.{ℕ, zero, suc, ◌+◌, ◌-◌, ◌*◌, ◌/◌, ◌<◌, ◌≤◌, ◌≡◌, ℤ, Bool, true, false, List, [], ◌∷◌, length, length-drop, take, drop, refl, ap, sym, ◌∙◌, arith}
+use Rattle.std.proofs.Common.{ℕ, zero, suc, ◌+◌, ◌*◌, ◌/◌, ◌<◌, ◌≤◌, ◌≡◌, ℤ, List, [], ◌∷◌, length, length-drop, take, drop, refl, ap, sym, ◌∙◌, arith}
 use Rattle.std.proofs.Math.Nat.{div-mul-le_self, mul_assoc, mul-div_cancel_left}
 use Rattle.std.proofs.lemmas.List.{length-map, length-take-le}
 use Rattle.std.specs.Prelude.{map, sum_by}
-use Rattle.zir_tree.specs.declared.format.Format.{Format}
 use Rattle.zir_tree.specs.declared.format.Format.TheVariants.{Binary, Text}
 use Rattle.zir_tree.specs.declared.types.Base.{Base}
 use Rattle.zir_tree.specs.declared.types.Base.TheVariants.{Unit as UnitTy, Bit, Bool as BoolTy, Int8, Int16, Int32, Int64, Complex16, Complex32, Struct}
@@ -12,7 +11,7 @@ use Rattle.zir_tree.specs.declared.types.StructDef.{StructDef}
 use Rattle.zir_tree.specs.declared.value.Val.{Val}
 use Rattle.zir_cells.specs.Layout.{base_cells, parts_in}
 use Rattle.zir_meaning.specs.Items.{Item, pieces, width}
-use Rattle.zir_meaning.specs.Elements.{array_of, Element, element_values, gathered, is_one, numbers_in, placed, value_of}
+use Rattle.zir_meaning.specs.Elements.{array_of, element_values, gathered, is_one, numbers_in, placed, value_of}
 use Rattle.zir_meaning.specs.Samples.{bit_items, bits_of}
 use Rattle.zir_meaning.specs.Texts.{text_items}
 use Rattle.zir_meaning.specs.Values.{Each, Kinds}

@@ -1,13 +1,13 @@
 -- The first item of a text, and what more bytes behind it change.
-use Rattle.std.proofs.Common.{ℕ, zero, suc, ◌+◌, ◌<◌, ◌≤◌, ◌≡◌, Bool, true, false, Option, Some, None, List, [], ◌∷◌, ◌++◌, length, length-append, take, drop, refl, ap, sym, subst, ◌∙◌, ◌⊎◌, inl, inr, ⊎_elim, arith, append_assoc, add-one}
+use Rattle.std.proofs.Common.{ℕ, zero, suc, ◌+◌, ◌<◌, ◌≤◌, ◌≡◌, Bool, true, false, Option, Some, None, List, [], ◌∷◌, ◌++◌, length, length-append, take, drop, refl, ap, sym, ◌∙◌, ◌⊎◌, inl, inr, ⊎_elim, arith, append_assoc, add-one}
 use Rattle.std.proofs.lemmas.Bool.{cases_Bool, cases_lt, false≢true}
 use Rattle.std.proofs.lemmas.Bool.Decides.{nat_tests}
-use Rattle.std.proofs.lemmas.List.{append-nil, drop-append-le}
+use Rattle.std.proofs.lemmas.List.{append-nil}
 use Rattle.std.specs.Prelude.{if◌then◌else◌, nat_eq, nat_le, ◌&&◌}
 use Rattle.zir_tree.specs.declared.format.Format.TheVariants.{Text}
 use Rattle.zir_tree.specs.declared.types.Base.{Base}
 use Rattle.zir_meaning.specs.Items.{fits, Item}
-use Rattle.zir_meaning.specs.Texts.{cut_items, is_end, item_before_comma, item_before_end, item_of, last_items, may_go_on, trimmed, written_number}
+use Rattle.zir_meaning.specs.Texts.{cut_items, item_before_comma, item_before_end, item_of, last_items, may_go_on, trimmed, written_number}
 use Rattle.zir_samples.specs.declared.text.Front.{Front}
 use Rattle.zir_samples.specs.declared.text.Front.TheVariants.{Item as FrontItem, Nothing, Malformed}
 use Rattle.zir_samples.specs.Reading.{IsUncut, items_of, Reads}

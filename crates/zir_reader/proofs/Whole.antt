@@ -1,20 +1,20 @@
 -- The elements of a whole input, by its items one after the other.
-use Rattle.std.proofs.Common.{ℕ, zero, suc, ◌+◌, ◌-◌, ◌*◌, ◌/◌, ◌^◌, ◌<◌, ◌≤◌, ◌≡◌, ℤ, Bool, true, false, Option, Some, None, List, [], ◌∷◌, ◌++◌, length, length-append, length-drop, take, drop, refl, ap, sym, subst, ◌∙◌, ◌⊎◌, ⊎_elim, arith, append_assoc, add-one}
+use Rattle.std.proofs.Common.{ℕ, zero, suc, ◌+◌, ◌/◌, ◌<◌, ◌≤◌, ◌≡◌, ℤ, Bool, true, false, Option, Some, None, List, [], ◌∷◌, ◌++◌, length, length-append, length-drop, take, drop, refl, ap, sym, subst, ◌∙◌, ⊎_elim, arith, append_assoc}
 use Rattle.std.proofs.lemmas.Bool.Decides.{nat_tests}
 use Rattle.std.proofs.lemmas.Bool.{cases_lt}
-use Rattle.std.proofs.lemmas.List.{drop-map, length-map, length-take-le, take-append-drop, take-map}
+use Rattle.std.proofs.lemmas.List.{drop-map, length-map, length-take-le, take-map}
 use Rattle.std.proofs.lemmas.List.Sums.{sum_by-cons}
 use Rattle.std.proofs.lemmas.Nat.{le-div}
 use Rattle.std.proofs.Math.Nat.{div-eq_of_lt, div-eq-sub-div}
 use Rattle.std.specs.List.{list_any}
-use Rattle.std.specs.Prelude.{if◌then◌else◌, is_none, map, min, nat_eq, sum_by, ◌||◌}
+use Rattle.std.specs.Prelude.{if◌then◌else◌, is_none, map, nat_eq, sum_by}
 use Rattle.zir_tree.specs.declared.format.Format.{Format}
 use Rattle.zir_tree.specs.declared.format.Format.TheVariants.{Binary, Text}
 use Rattle.zir_tree.specs.declared.types.Base.{Base}
 use Rattle.zir_tree.specs.declared.types.Ty.{Ty}
 use Rattle.zir_cells.specs.Cells.{cells_of}
 use Rattle.zir_meaning.specs.Items.{Item, pieces, width}
-use Rattle.zir_meaning.specs.Elements.{array_of, Element, element_values, Ended, gathered, Malformed, numbers_in, place_after, placed, Tail, told_place}
+use Rattle.zir_meaning.specs.Elements.{array_of, Element, element_values, Ended, gathered, Malformed, numbers_in, place_after, placed, Tail}
 use Rattle.zir_meaning.specs.Samples.{bit_items, bits_of, number_at}
 use Rattle.zir_meaning.specs.Texts.{cut_at_commas, sound_items}
 use Rattle.zir_samples.specs.Finding.{IsStreamType}
@@ -22,7 +22,7 @@ use Rattle.zir_samples.specs.Reading.{items_of}
 use Rattle.zir_samples.proofs.Elements.{AreCells, bit-cells, cells-array, cells-take, numbers}
 use Rattle.zir_samples.proofs.Gathering.{items-cells, sound-cells}
 use Rattle.zir_reader.specs.Gathering.{input_from, told, with_element}
-use Rattle.zir_reader.specs.Inputs.{Input, input_of}
+use Rattle.zir_reader.specs.Inputs.{Input}
 use Rattle.zir_reader.specs.Numbers.{items_from}
 use Rattle.zir_reader.specs.Reading.{spelled}
 

@@ -1,5 +1,5 @@
 -- Numbers that are read one after the other: what a reader of them holds, and what its calls give.
-use Rattle.std.specs.Prelude.{ℕ, ◌+◌, ◌*◌, ◌/◌, ◌%◌, ◌<◌, ◌≤◌, ◌≡◌, ℤ, Bool, true, false, if◌then◌else◌, List, [], ◌∷◌, ◌++◌, length, map, take, drop, Option, Some, None}
+use Rattle.std.specs.Prelude.{ℕ, ◌+◌, ◌*◌, ◌/◌, ◌%◌, ◌<◌, ◌≤◌, ◌≡◌, Bool, true, false, if◌then◌else◌, List, [], ◌∷◌, ◌++◌, length, map, take, drop, Option, Some, None}
 use Rattle.zir_tree.specs.declared.format.Format.{Format}
 use Rattle.zir_tree.specs.declared.format.Format.TheVariants.{Binary, Text}
 use Rattle.zir_tree.specs.declared.types.Base.{Base}

@@ -5,7 +5,6 @@ use Rattle.zir_tree.specs.declared.format.Format.{Format}
 use Rattle.zir_tree.specs.declared.types.Ty.{Ty}
 use Rattle.zir_meaning.specs.Elements.{element_values, elements}
 use Rattle.zir_reader.specs.declared.reader.Reader.{Reader}
-use Rattle.zir_reader.specs.declared.reader.SourceElements.{SourceElements}
 use Rattle.zir_reader.specs.Gathering.{gatherer_size, input_ahead}
 use Rattle.zir_reader.specs.Inputs.{Input, input_of}
 use Rattle.zir_reader.specs.Numbers.{items_to_come}
@@ -25,7 +24,3 @@ input_left reader bytes = input_ahead reader.gatherer (items_to_come reader.numb
 -- the same where the source tells what it has left
 abbrev pub left_with : Reader → Option (List ℕ) → Option Input
 left_with reader left = option_map (input_left reader) left
-
--- the reader of elements of a source
-abbrev pub reader_in : {S : Type 0} → SourceElements S → Reader
-reader_in elements = elements.reader

@@ -28,13 +28,11 @@ pub trait ElementSource {
     // How often it failed. This never falls.
     ghost faults: { Self → ℕ };
 
-    // It still takes them from the same place.
+    // It holds the same references as before, so that their lender learns what it ends as.
     ghost keeps: { Self → Self → Type 0 };
 
-    // So it does where nothing happened.
     ghost keeps_same: { (x : Self) → keeps x x };
 
-    // And where it does step by step.
     ghost keeps_on: { (x y z : Self) → keeps x y → keeps y z → keeps x z };
 
     /// Puts the cells of the next element into `into`, if there is one. After `Failed` no other call comes.

@@ -65,35 +65,34 @@ impl Reader {
 /// The elements that a reader reads out of a source.
 #[derive(Debug, Drop)]
 pub struct SourceElements<'a, S> {
-    reader: Reader,
+    reader: &'a mut Reader,
     source: &'a mut S,
 }
 
 impl<'a, S: Source> SourceElements<'a, S> {
-    ghost use Rattle.zir_reader.specs.Reading.{left_with, reader_in};
-
     /// Reads from this source on.
-    pub fn new(reader: Reader, source: &'a mut S) -> SourceElements<'a, S>
-        ensures reader { reader_in result ≡ reader }
+    pub fn new(reader: &'a mut Reader, source: &'a mut S) -> SourceElements<'a, S>
+        ensures reader { result.reader.now ≡ reader.old }
         ensures source { result.source.now ≡ source.old }
-        ensures same_reference { result.source.ghost_name ≡ source.entry.ghost_name }
+        ensures same_reader { result.reader.ghost_name ≡ reader.entry.ghost_name }
+        ensures same_source { result.source.ghost_name ≡ source.entry.ghost_name }
     {
         SourceElements { reader, source }
     }
 }
 
 impl<'a, S: Source> ElementSource for SourceElements<'a, S> {
-    ghost size = { λ e. element_size e.reader };
+    ghost size = { λ e. element_size e.reader.now };
 
-    ghost left = { λ e. left_with e.reader (S.left e.source.now) };
+    ghost left = { λ e. left_with e.reader.now (S.left e.source.now) };
 
     ghost faults = { λ e. S.faults e.source.now };
 
-    ghost keeps = { λ old new. new.source.ghost_name ≡ old.source.ghost_name };
+    ghost keeps = { λ old new. (new.reader.ghost_name ≡ old.reader.ghost_name) × (new.source.ghost_name ≡ old.source.ghost_name) };
 
-    ghost keeps_same = { λ e. refl };
+    ghost keeps_same = { λ e. (refl, refl) };
 
-    ghost keeps_on = { λ one two three p q. q ∙ p };
+    ghost keeps_on = { λ one two three p q. (q.0 ∙ p.0, q.1 ∙ p.1) };
 
     fn next(&mut self, into: &mut [i64]) -> Next {
         self.reader.next(self.source, into)

@@ -1,4 +1,6 @@
-ghost use Rattle.std.specs.Prelude.{◌≡◌, ◌≤◌, ◌∷◌, [], IfOk};
+ghost use Rattle.std.specs.Prelude.{◌≡◌, ◌≤◌, ◌∷◌, [], IfOk, length};
+ghost use Rattle.zir_outside.specs.Causes.{Rose};
+ghost use Rattle.zir_reader.specs.Reading.{element_size};
 ghost use Rattle.zir_meaning.specs.Elements.{numbers_in};
 ghost use Rattle.zir_samples.specs.Finding.{IsStreamType};
 
@@ -7,6 +9,7 @@ use crate::{Reader, SourceElements};
 use sqlite_items::Items;
 use std::alloc::{AllocError, Global};
 use std::test::Fail;
+use zir_outside::Source;
 use zir_outside::memory::MemSource;
 use zir_tree::format::Format;
 use zir_tree::types::{Base, Ty};
@@ -81,8 +84,12 @@ fn read(alloc: Global, case: Case, ty: &Ty, size: usize, piece: usize) -> Result
 {
     let bytes = Vec::from_slice(alloc, case.bytes)?;
     let mut source = MemSource::new(bytes, piece, Vec::from_slice(alloc, case.failing)?);
-    let reader = Reader::open(alloc, case.format, ty)?;
-    drain(alloc, &mut SourceElements::new(reader, &mut source), size)
+    let mut reader = Reader::open(alloc, case.format, ty)?;
+    drain(
+        alloc,
+        &mut SourceElements::new(&mut reader, &mut source),
+        size,
+    )
 }
 
 fn expected(alloc: Global, cells: &[i64], end: Next, failed: usize) -> Result<Taken, AllocError> {
@@ -173,5 +180,46 @@ fn failed_reads_lose_nothing(rt: HostRuntime) -> Result<(), Fail> {
     };
     let wanted = expected(alloc, &[1, 2, 3], Next::End, 2)?;
     assert_eq!(rt; read(alloc, case, &three, 3, 3)?, wanted);
+    Ok(())
+}
+
+fn next_of<E: ElementSource>(elements: &mut E, into: &mut [i64]) -> Next
+    requires { length into.old ≡ E.size elements.old }
+    ensures size { E.size elements.new ≡ E.size elements.old }
+    ensures keeps { E.keeps elements.old elements.new }
+    ensures cause { result ≡ Next.Failed → Rose (E.faults elements.old) (E.faults elements.new) }
+{
+    elements.next(into)
+}
+
+// A caller learns from what generic code keeps why a read failed.
+fn first<S: Source>(reader: &mut Reader, source: &mut S, into: &mut [i64]) -> Next
+    requires { length into.old ≡ element_size reader.old }
+    ensures size { element_size reader.new ≡ element_size reader.old }
+    ensures cause { result ≡ Next.Failed → Rose (S.faults source.old) (S.faults source.new) }
+{
+    next_of(&mut SourceElements::new(reader, source), into)
+}
+
+#[test]
+fn a_reader_goes_on_with_its_source(rt: HostRuntime) -> Result<(), Fail> {
+    let alloc = rt.alloc();
+    let bytes = Vec::from_slice(alloc, &[5, 6])?;
+    let mut source = MemSource::new(bytes, 2, Vec::from_slice(alloc, &[1])?);
+    let mut reader = Reader::open(alloc, Format::Binary, &single(alloc, Base::Int8))?;
+    let mut element = [0; 1];
+    assert_eq!(rt; first(&mut reader, &mut source, &mut element), Next::Failed);
+    assert_eq!(rt;
+        first(&mut reader, &mut source, &mut element),
+        Next::Element
+    );
+    assert_eq!(rt; element[0], 5);
+    assert_eq!(rt;
+        first(&mut reader, &mut source, &mut element),
+        Next::Element
+    );
+    assert_eq!(rt; element[0], 6);
+    assert_eq!(rt; first(&mut reader, &mut source, &mut element), Next::End);
+    assert_eq!(rt; source.given(), 2);
     Ok(())
 }

@@ -1,4 +1,4 @@
-use Rattle.std.proofs.Common.{w64, ◌≡◌, ◌+◌, length, to_z, of_z, arith, rules}
+use Rattle.std.proofs.Common.{w64, ◌≡◌, ◌+◌, length, to_z, of_z, rules}
 use Rattle.std.proofs.lemmas.Int.{to_z-of_z}
 use Rattle.zir_reader.proofs.Gathering.{pushes-whole}
 use Rattle.zir_reader.proofs.gatherer.Gatherer.push.Goals as goal

@@ -1,4 +1,4 @@
-use Rattle.std.proofs.Common.{false, ap, ◌∙◌, ◌++◌, if◌then◌else◌, [], sym}
+use Rattle.std.proofs.Common.{ap, ◌∙◌}
 use Rattle.zir_reader.specs.Gathering.{input_ahead}
 use Rattle.zir_reader.specs.Numbers.{Held, items_to_come}
 use Rattle.zir_reader.proofs.Whole.{items-spelled}
