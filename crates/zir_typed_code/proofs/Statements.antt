@@ -37,15 +37,15 @@ use Rattle.zir_typed_code.proofs.Expressions.{expression_fits, lists_fit}
 use Rattle.zir_typed_code.proofs.Coming.{local_comes, seeing}
 
 -- An expression with room for its code.
-fits_here : (xs : List ℕ) (v : Visible) (g : Scope) (n d : ℕ) → SameScope xs v g n → (t : Ty) (e : Expr) → IsFilled e → types.Has v t e → peak_of g e d ≤ n →
+pub fits_here : (xs : List ℕ) (v : Visible) (g : Scope) (n d : ℕ) → SameScope xs v g n → (t : Ty) (e : Expr) → IsFilled e → types.Has v t e → peak_of g e d ≤ n →
     Fits g d n t e
 fits_here xs v g n d w t e f h le = (expression_fits xs v g n w t e f h, le)
 
-initial_room : (g : Scope) (d k : ℕ) (o : Option Expr) → d + k ≤ initial_peak g d k o
+pub initial_room : (g : Scope) (d k : ℕ) (o : Option Expr) → d + k ≤ initial_peak g d k o
 initial_room g d k None = omega arith
 initial_room g d k (Some e) = omega arith
 
-initial_fits : (xs : List ℕ) (v : Visible) (g : Scope) (n d k : ℕ) → SameScope xs v g n → (t : Ty) (o : Option Expr) → FilledIfAny o → HasIfAny v t o →
+pub initial_fits : (xs : List ℕ) (v : Visible) (g : Scope) (n d k : ℕ) → SameScope xs v g n → (t : Ty) (o : Option Expr) → FilledIfAny o → HasIfAny v t o →
     initial_peak g d k o ≤ n → InitialFits g d n t o
 initial_fits xs v g n d k w t None f h le = tt
 initial_fits xs v g n d k w t (Some e) f h le = fits_here xs v g n d w t e f h (omega arith)
@@ -125,7 +125,7 @@ same_behind : (xs : List ℕ) (v : Visible) (g : Scope) (n : ℕ) → SameScope 
 same_behind xs v g n w = subst (λ vs. SameScope xs (seeing v vs) g n) (sym (append-nil v.variables)) w
 
 -- Behind a statement both sides have the same in scope.
-scope_goes_on : (xs : List ℕ) (v : Visible) (g : Scope) (n d : ℕ) → SameScope xs v g n → (s : Stmt) → FormedStmt (length g.structs) xs s →
+pub scope_goes_on : (xs : List ℕ) (v : Visible) (g : Scope) (n d : ℕ) → SameScope xs v g n → (s : Stmt) → FormedStmt (length g.structs) xs s →
     stmt_peak g d s ≤ n → SameScope (numbers_after xs s) (declare (brought s) v) (scope_after g d s) n
 scope_goes_on xs v g n d w (VarStmt x) f le =
     let room = initial_room g d (cells_for g (type_of x.ty)) x.initial in
@@ -150,7 +150,7 @@ same_structs g d (While' e _ ss p) = refl
 same_structs g d (For' x a k _ ss p) = refl
 
 mutual
-  stmt_fits : (xs : List ℕ) (v : Visible) (g : Scope) (n d : ℕ) → SameScope xs v g n → (s : Stmt) → FormedStmt (length g.structs) xs s → IsStmt v s →
+  pub stmt_fits : (xs : List ℕ) (v : Visible) (g : Scope) (n d : ℕ) → SameScope xs v g n → (s : Stmt) → FormedStmt (length g.structs) xs s → IsStmt v s →
       stmt_peak g d s ≤ n → Fine g d n s
   stmt_fits xs v g n d w (VarStmt x) f h le =
       let t = type_of x.ty in
@@ -176,7 +176,7 @@ mutual
         row_fits (x.id ∷ xs) (seen.with_index x v) (with_index g d x.id) n (d + 1) inner ss f.3 h.2 (omega arith),
       )
 
-  row_fits : (xs : List ℕ) (v : Visible) (g : Scope) (n d : ℕ) → SameScope xs v g n → {m : _} (ss : Row_of-Stmt m) → FormedRow (length g.structs) xs ss →
+  pub row_fits : (xs : List ℕ) (v : Visible) (g : Scope) (n d : ℕ) → SameScope xs v g n → {m : _} (ss : Row_of-Stmt m) → FormedRow (length g.structs) xs ss →
       AreStmts v ss → row_peak g d ss ≤ n → FineRow g d n ss
   row_fits xs v g n d w end_of-Stmt f h le = tt
   row_fits xs v g n d w (more_of-Stmt s ss) f h le = (
@@ -202,7 +202,7 @@ scopes_go_on xs v g n w d (s ∷ ss) f h le =
     scopes_go_on (numbers_after xs s) (declare (brought s) v) (scope_after g d s) n (scope_goes_on xs v g n d w s f.0 (omega arith)) (free_after g d s) ss
     (subst (λ structs. FormedAll (length structs) (numbers_after xs s) ss) (same_structs g d s) f.1) h.1 (omega arith)
 
-value_fits : (xs : List ℕ) (v : Visible) (g : Scope) (n d : ℕ) → SameScope xs v g n → (t : Ty) (r : Option Return) → FilledReturn r → Returns v t r →
+pub value_fits : (xs : List ℕ) (v : Visible) (g : Scope) (n d : ℕ) → SameScope xs v g n → (t : Ty) (r : Option Return) → FilledReturn r → Returns v t r →
     return_peak g d r ≤ n → ValueFits g d n t r
 value_fits xs v g n d w t None f h le = h
 value_fits xs v g n d w t (Some r) f h le = fits_here xs v g n d w t r.value f h le

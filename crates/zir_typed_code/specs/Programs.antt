@@ -2,12 +2,14 @@
 use Rattle.std.specs.Prelude.{◌≡◌, ◌<◌, ◌≤◌, ℕ, length, List, [], ◌∷◌, Option, Some, None, slice_get}
 use Rattle.zir_tree.specs.declared.program.Function.{Function}
 use Rattle.zir_tree.specs.declared.program.Core.{Core}
+use Rattle.zir_meaning.specs.Functions.{library_of}
 use Rattle.zir_code.specs.declared.scope.Holder.{Holder}
 use Rattle.zir_code.specs.declared.scope.Signature.{Signature}
 use Rattle.zir_code.specs.Needs.{all_peak}
 use Rattle.zir_code.specs.Bodies.{FineAll}
+use Rattle.zir_code.specs.Calls.{Calls}
 use Rattle.zir_compile.specs.Signing.{no_signature, signatures_of, FineAfter}
-use Rattle.zir_eval.specs.Opening.{top_holders, program_scope, initial_assignments, KnowsTypes}
+use Rattle.zir_eval.specs.Opening.{top_holders, top_cells, program_scope, initial_assignments, KnowsTypes}
 use Rattle.zir_sound.specs.Statements.{param_types}
 use Rattle.zir_sound.specs.Cores.{IsSound, result_type}
 use Rattle.zir_typed_code.specs.Forming.{WellFormed, top_numbers}
@@ -45,6 +47,12 @@ abbrev pub FunctionsFit : Type 0
 FunctionsFit =
     (core : Core) → IsSound core → WellFormed core → IsSigned core → FineAfter core.structs (tops_of core) no_signature 0 core.functions
 
+-- So they do what they mean.
+abbrev pub TypedFunctionsMean : Type 0
+TypedFunctionsMean =
+    (core : Core) → IsSound core → WellFormed core → IsSigned core →
+    Calls (top_cells core) (library_of core.structs core.functions) core.structs (program_scope core).tops (program_scope core).funs
+
 -- The function at a place has a signature there, of the types that it is written with.
 pub record SignedAt (core : Core) (k : ℕ) (f : Function) : Type 0 where
   pub made : Signature
@@ -54,7 +62,9 @@ pub record SignedAt (core : Core) (k : ℕ) (f : Function) : Type 0 where
 
 -- Each function of a program is found at its place.
 abbrev pub SignaturesAreFound : Type 0
-SignaturesAreFound = (core : Core) → IsSound core → WellFormed core → IsSigned core → (k : ℕ) (f : Function) → slice_get core.functions k ≡ Some f → SignedAt core k f
+SignaturesAreFound =
+    (core : Core) → IsSound core → WellFormed core → IsSigned core →
+    (k : ℕ) (f : Function) → slice_get core.functions k ≡ Some f → SignedAt core k f
 
 -- The initial values of top variables are well typed for code, where there is room for all that they use.
 abbrev pub InitialsFit : Type 0

@@ -4,7 +4,7 @@
 
 ghost use Rattle.zir_typed_code.specs.Laws.{BodiesFit, ComponentsAreKnown, ExpressionsFit, ListsFit, LocalsComeIn, ParametersAreKnown};
 ghost use Rattle.zir_typed_code.specs.Laws.{ParametersComeIn, ScopesGoOn, StatementsFit, ValuesAreKnown};
-ghost use Rattle.zir_typed_code.specs.Programs.{FoundAreSigned, FunctionsFit, InitialsFit, SignaturesAreFound, TopIsSame, TypesAreKnown};
+ghost use Rattle.zir_typed_code.specs.Programs.{FoundAreSigned, FunctionsFit, InitialsFit, SignaturesAreFound, TopIsSame, TypedFunctionsMean, TypesAreKnown};
 ghost use Rattle.zir_typed_code.specs.Walked.{TypedAreWellFormed};
 
 /// A typed expression has its type in code too.
@@ -70,6 +70,11 @@ pub fn top_is_same()
 /// The functions of a typed program are what code asks for.
 pub fn functions_fit()
     ensures { FunctionsFit }
+{}
+
+/// The functions of a typed program do what they mean.
+pub fn typed_functions_mean()
+    ensures { TypedFunctionsMean }
 {}
 
 /// Each function of a program is found at its place.
