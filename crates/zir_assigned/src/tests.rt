@@ -96,11 +96,18 @@ fn made(alloc: Global) -> Result<Assigned, AllocError> {
     Assigned::of(alloc, functions.as_slice(), instances.as_slice())
 }
 
+// A call of the instance.
+fn call(alloc: Global) -> Result<Comp, AllocError> {
+    let name = named(alloc, 0)?;
+    Ok(Comp::Call(name, 0, Items::new(alloc)))
+}
+
 #[test]
 fn an_instance_assigns_what_its_functions_do(rt: HostRuntime) -> Result<(), Fail> {
-    let made = made(rt.alloc())?;
-    let call = Comp::Call(named(rt.alloc(), 0)?, 0, Items::new(rt.alloc()));
-    let set = made.component(rt.alloc(), &call)?;
+    let alloc = rt.alloc();
+    let made = made(alloc)?;
+    let call = Boxed::new(alloc, call(alloc)?)?;
+    let set = made.component(alloc, call.get())?;
     assert_eq!(rt; set.contains(1), true);
     assert_eq!(rt; set.contains(2), false);
     Ok(())

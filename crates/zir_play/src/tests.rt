@@ -102,7 +102,9 @@ fn malformed_input_is_told_where_it_is_needed(rt: HostRuntime) -> Result<(), Fai
 #[test]
 fn a_stage_ends_with_a_value_and_takes_no_more(rt: HostRuntime) -> Result<(), Fail> {
     let mut code = seconds(rt.alloc())?;
-    code[3] = Instruction::Stop;
+    if let Some(instruction) = code.get_mut(3) {
+        *instruction = Instruction::Stop;
+    }
     let case = Case {
         cells: &[1, 7, 2, 8],
         malformed: None,
