@@ -15,11 +15,15 @@ use Rattle.zir_flat.specs.Programs.{first_setting, program_setting, program_need
 use Rattle.zir_flat.specs.Laws.{ProgramFlows}
 use Rattle.zir_typed_parts.specs.Laws.{CoresFlow}
 use Rattle.zir_typed_code.specs.Forming.{WellFormed, top_numbers}
+use Rattle.zir_typed_code.proofs.Expressions.{expression_fits}
+use Rattle.zir_typed_code.proofs.Known.{values_known}
+use Rattle.zir_typed_code.proofs.Coming.{local_comes}
+use Rattle.zir_typed_code.proofs.Statements.{scopes_go_on, bodies_fit}
+use Rattle.zir_typed_code.proofs.Functions.{top_is_same, functions_fit}
 use Rattle.zir_typed_parts.proofs.Grounds.{Relates, Ground}
 use Rattle.zir_typed_parts.proofs.Fitting.{all_same_are, flows}
 use Rattle.zir_typed_parts.proofs.Instances.{instances_placed}
-use Rattle.zir_typed_parts.proofs.Scopes.{related_relates}
-use Rattle.zir_typed_parts.proofs.Tops.{top_related}
+use Rattle.zir_typed_parts.proofs.Scopes.{CodeFits, related_relates}
 
 -- what the main component emits has the type that the program writes
 writes_fit : (o : Option Ty) (t : Ty) → all_same t (emitted o) ≡ true → EmitsFit o t
@@ -44,7 +48,12 @@ core_flows {R} core relates sound formed functions related =
           formed.input formed.main sound.main (writes_fit sound.emits core.output sound.writes) (omega arith) (omega arith);
     }
 
+-- typed code below components is what the laws of code ask for
+code_fits : CodeFits
+code_fits = record { expressions = expression_fits; values = values_known; locals = local_comes; scopes = scopes_go_on; bodies = bodies_fit }
+
 -- the law
 pub cores_flow : CoresFlow
-cores_flow core sound formed signed fits functions =
-    core_flows core (related_relates (length core.structs) fits) sound formed functions (top_related core sound formed signed)
+cores_flow core sound formed signed =
+    core_flows core (related_relates (length core.structs) code_fits) sound formed (functions_fit core sound formed signed)
+    (record { same = top_is_same core sound formed signed 0; count = refl })

@@ -4,5 +4,4 @@ pub mod Fitting
 pub mod Parameters
 pub mod Instances
 pub mod Scopes
-pub mod Tops
 pub mod Cores

@@ -1,7 +1,6 @@
 -- What types see, and what code has in scope.
-use Rattle.std.specs.Prelude.{ℕ, ◌+◌, ◌≤◌, List, [], ◌∷◌, ◌++◌, Option, Some, None, false, ◌≡◌, nat_eq, length}
+use Rattle.std.specs.Prelude.{ℕ, ◌+◌, ◌≤◌, List, [], ◌∷◌, Option, Some, None, false, ◌≡◌, length}
 use Rattle.std.proofs.Common.{ap, ◌∙◌, sym, subst, refl, arith}
-use Rattle.std.proofs.lemmas.Bool.{ne_eqb, eqb-false}
 use Rattle.zir_tree.specs.declared.types.Ty.{Ty}
 use Rattle.zir_tree.specs.declared.stmt.Stmt.{Stmt, Var as VarStmt, Assign, Call as CallStmt, Error, If', IfElse', While', For'}
 use Rattle.zir_tree.specs.declared.stmt.Return.{Return}
@@ -11,48 +10,35 @@ use Rattle.zir_types.specs.Scope.{Visible, declare, variable}
 use Rattle.zir_shapes.specs.Shapes.{StructsBefore}
 use Rattle.zir_expr.specs.declared.frame.Spot.{Spot}
 use Rattle.zir_expr.specs.declared.frame.Spot.TheVariants.{Top, Local}
-use Rattle.zir_code.specs.declared.scope.Holder.{Holder}
 use Rattle.zir_code.specs.Scopes.{Scope}
 use Rattle.zir_code.specs.Types.{cells_for}
 use Rattle.zir_code.specs.Typing.{SpotFits}
 use Rattle.zir_code.specs.Needs.{all_peak}
-use Rattle.zir_code.specs.Fine.{Absent}
 use Rattle.zir_code.specs.Statements.{with_local, scope_after, free_after}
 use Rattle.zir_code.specs.Bodies.{scope_after_all, free_after_all}
 use Rattle.zir_code.proofs.TypesFound.{types_found}
 use Rattle.zir_sound.specs.Statements.{IsBody, Returns, behind}
 use Rattle.zir_sound.specs.Laws.{is_in}
 use Rattle.zir_flow.specs.Kinds.{returned_type, body_type}
-use Rattle.zir_flow.specs.Fitting.{Distinct, Apart, ReturnFits, DoFits}
+use Rattle.zir_flow.specs.Fitting.{ReturnFits, DoFits}
 use Rattle.zir_flat.specs.Needs.{returned_peak, do_peak}
 use Rattle.zir_typed_code.specs.Forming.{FilledReturn, FormedBody, numbers_behind}
-use Rattle.zir_typed_code.specs.Scopes.{Finds, MayCall, IsNew, SameScope}
-use Rattle.zir_typed_code.specs.Laws.{ValuesAreKnown, return_peak, ValueFits}
-use Rattle.zir_typed_parts.specs.Laws.{CodeFits}
+use Rattle.zir_typed_code.specs.Scopes.{Finds, MayCall, SameScope}
+use Rattle.zir_typed_code.specs.Laws.{ExpressionsFit, ValuesAreKnown, LocalsComeIn, ScopesGoOn, BodiesFit, return_peak, ValueFits}
 use Rattle.zir_typed_parts.proofs.Grounds.{Known, FunctionFound, Relates}
 
--- code has in scope what is seen, where its cells from d on are free and the program has n structs, and no two of its variables have one number
+-- what typed code below components is for code
+pub record CodeFits : Type 0 where
+  pub expressions : ExpressionsFit
+  pub values : ValuesAreKnown
+  pub locals : LocalsComeIn
+  pub scopes : ScopesGoOn
+  pub bodies : BodiesFit
+
+-- code has in scope what is seen, where its cells from d on are free and the program has n structs
 pub record Related (n : ℕ) (ids : List ℕ) (g : Visible) (sc : Scope) (d : ℕ) : Type 0 where
   pub same : SameScope ids g sc d
   pub count : n ≡ length sc.structs
-  pub tops : Distinct sc.tops
-  pub locals : Distinct sc.locals
-  pub apart : Apart sc.locals sc.tops
-
-not_same : (a b : ℕ) → nat_eq a b ≡ false → nat_eq b a ≡ false
-not_same a b h = ne_eqb b a (λ e. eqb-false a b h (sym e))
-
-absent_more : (ds : List Holder) (d : Holder) (id : ℕ) → Absent ds id → nat_eq d.id id ≡ false → Absent (ds ++ d ∷ []) id
-absent_more [] d id h e = (e, tt)
-absent_more (x ∷ ds) d id h e = (h.0, absent_more ds d id h.1 e)
-
-distinct_more : (ds : List Holder) (d : Holder) → Distinct ds → Absent ds d.id → Distinct (ds ++ d ∷ [])
-distinct_more [] d h none = (tt, tt)
-distinct_more (x ∷ ds) d h none = (absent_more ds d x.id h.0 (not_same x.id d.id none.0), distinct_more ds d h.1 none.1)
-
-apart_more : (ds : List Holder) (d : Holder) (others : List Holder) → Apart ds others → Absent others d.id → Apart (ds ++ d ∷ []) others
-apart_more [] d others h none = (none, tt)
-apart_more (x ∷ ds) d others h none = (h.0, apart_more ds d others h.1 none)
 
 -- MORE CELLS IN USE
 
@@ -75,12 +61,13 @@ same_later ids g sc d d' le s = record {
   ordered = s.ordered;
   variables = λ id t h. finds_later sc d d' id t le (s.variables id t h);
   functions = s.functions;
+  own = s.own;
   numbers = s.numbers;
 }
 
 related_later : (n : ℕ) (ids : List ℕ) (g : Visible) (sc : Scope) (d d' : ℕ) → d ≤ d' → Related n ids g sc d → Related n ids g sc d'
 related_later n ids g sc d d' le r =
-    record { same = same_later ids g sc d d' le r.same; count = r.count; tops = r.tops; locals = r.locals; apart = r.apart }
+    record { same = same_later ids g sc d d' le r.same; count = r.count }
 
 -- ONE MORE NAME
 
@@ -88,15 +75,10 @@ related_local : (n : ℕ) → CodeFits → (ids : List ℕ) (g : Visible) (sc : 
     is_in ids id ≡ false → Related n (id ∷ ids) (declare (variable id t ∷ []) g) (with_local sc d id t) (d + cells_for sc t)
 related_local n fits ids g sc d id t r known fresh =
     let d' : ℕ = d + cells_for sc t in
-    let h : Holder = record { id = id; spot = Local d; cells = cells_for sc t; ty = t } in
-    let new : IsNew sc id = r.same.numbers id fresh in
     record {
       same = fits.locals ids g sc d' (same_later ids g sc d d' (omega arith) r.same) d id t fresh (subst (λ n. StructsBefore n t.base) r.count known)
           (omega arith);
       count = r.count;
-      tops = r.tops;
-      locals = distinct_more sc.locals h r.locals new.locals;
-      apart = apart_more sc.locals h sc.tops r.apart new.tops;
     }
 
 -- FUNCTIONS
@@ -179,7 +161,7 @@ related_relates n fits = record {
   later = λ ids g sc d d' le r. related_later n ids g sc d d' le r;
   local = λ ids g sc d id t r known fresh. related_local n fits ids g sc d id t r known fresh;
   structs = λ ids g sc d r. r.count;
-  distinct = λ ids g sc d r. (r.tops, r.locals, r.apart);
+  distinct = λ ids g sc d r. (r.same.own.tops, r.same.own.locals, r.same.own.between);
   expression = λ ids g sc d t e r filled h. (
     fits.expressions ids g sc d r.same t e filled h,
     subst (λ n. StructsBefore n t.base) (sym r.count) (fits.values ids g sc d r.same t e filled h).1,
